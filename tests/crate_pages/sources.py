@@ -169,7 +169,7 @@ def names_of_block(word, rest):
     if not found:
         return None, re.match(r"\s*(\w+)", trait)[1]
     of = re.search(r"From<([\w:]+)", rest)
-    return re.match(r"\s*([\w:]+)", trait)[1] + (f"({of[1]})" if of else ""), re.match(r"\s*([\w:]+)", owner)[1]
+    return re.match(r"\s*([\w:]+)", trait)[1] + (f"({of[1]})" if of else ""), re.match(r"(?:\s|&|'\w+)*([\w:]+)", owner)[1]
 
 
 def types_of(path):

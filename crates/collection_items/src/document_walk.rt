@@ -1,16 +1,15 @@
 //! A walk over a document, around the items of its member `value`.
 ghost use Rattle.std.specs.Prelude.{◌≡◌, ◌≢◌, ◌≤◌, ℕ, List, [], codes, false, length, IfSome, IsTrue};
+ghost use Rattle.json.specs.Lex.{fresh, after_value};
 ghost use Rattle.serde_json.specs.Data.{Data};
-ghost use Rattle.json_tokens.specs.declared.lexeme.Turn.TheVariants.{AfterValue, Fresh};
 ghost use Rattle.json_room.specs.Lexemes.{tokens_at};
-ghost use Rattle.edm_entities.specs.private.RowTokens.{ReadsMembers};
-ghost use Rattle.edm_rows.specs.private.MembersSoFar.{MembersRead};
+ghost use Rattle.json_room.specs.private.ItemTokens.{ReadsMembers};
+ghost use Rattle.json_room.specs.private.ValuesStand.{MembersRead};
 ghost use Rattle.collection_items.specs.JudgedItems.{AreJudged, HasValue, IsArrayIn, SaysNoMore};
 ghost use Rattle.collection_items.specs.private.DocumentWalk.{EndsItem, EndsPair, FindsArray, JudgesArray, NamesMember};
 
 use crate::item_judge::JudgesItems;
-use edm_rows::any_value_end;
-use json_room::{DecodeBuffer, RoomyLine, any_text_at, past_blanks};
+use json_room::{DecodeBuffer, RoomyLine, any_text_at, any_value_end, past_blanks};
 use std::alloc::Global;
 
 /// How deep the value of a document's member may nest.
@@ -182,8 +181,8 @@ fn after_member(document: &RoomyLine<'_>, end: usize) -> Option<After>
 fn object_end(document: &RoomyLine<'_>, from: usize, buffer: &mut DecodeBuffer) -> Option<usize>
     requires { from ≤ length document.now }
     ensures { (begin : ℕ) (json : Data) → MembersRead 126 document.now begin from (HasValue json)
-        → IfSome result (λ to. (to ≤ length document.now) × ReadsMembers 126 (tokens_at Fresh document.now begin)
-        (tokens_at AfterValue document.now to) (HasValue json)) }
+        → IfSome result (λ to. (to ≤ length document.now) × ReadsMembers 126 (tokens_at fresh document.now begin)
+        (tokens_at after_value document.now to) (HasValue json)) }
 {
     let mut end = from;
     'members: loop {

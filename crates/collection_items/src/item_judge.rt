@@ -1,5 +1,5 @@
 ghost use Rattle.std.specs.Prelude.{◌≤◌, length, IfSome};
-ghost use Rattle.edm_rows.specs.RowItems.{ValueStands};
+ghost use Rattle.json_room.specs.ValueStands.{ValueStands};
 ghost use Rattle.collection_items.specs.JudgedItems.{ItemJudge, SaysNoMore};
 
 use json_room::RoomyLine;

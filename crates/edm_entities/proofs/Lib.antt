@@ -1,3 +1,2 @@
 pub mod FitLemmas
-pub mod RowLemmas
 pub mod SlotLemmas

@@ -24,7 +24,6 @@ pub mod HasType
 pub mod HoldsEachSlot
 pub mod Row
 pub mod RowFaults
-pub mod RowReading
 pub mod SlotValue
 pub mod ValuesRead
 pub mod private

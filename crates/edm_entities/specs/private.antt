@@ -2,10 +2,6 @@
 pub mod Faults
 pub mod KeptRows
 pub mod MemberWalk
-pub mod NextMember
-pub mod Passed
 pub mod PropertyCursor
-pub mod RowTokens
 pub mod Scalars
-pub mod SlotsSoFar
 pub mod Walk

@@ -30,36 +30,18 @@ pub each_at : {X : Type 0} (Q : ℕ → X → Type 0) (items : List X) (k : ℕ)
 each_at Q items k x each at = subst (λ o. IfSome o (Q k)) at (each k)
 
 -- a slot by its name and its property, and by what follows it
-pub slot_made : (schema : SchemaModel) (steps : List StepModel) (id : ℕ) (node : Option ℕ) (slot : ℕ) (name : List ℕ) (property : Property) (behind : Option ℕ) (key : Option (List ℕ)) (plan : SlotPlan)
-    → (key ≡ Some plan.key) × (plan.property ≡ property) × (plan.node ≡ behind) × (plan.target ≡ target_at steps behind property)
-    → IfSome key (λ k. k ≡ name) → slice_get (map (λ p. p.name) (properties_at schema id)) slot ≡ Some name → IfSome (slice_get (properties_at schema id) slot) (λ p. IsReadAs schema p property)
+pub slot_made : (schema : SchemaModel) (steps : List StepModel) (id : ℕ) (node : Option ℕ) (slot : ℕ) (name : List ℕ) (property : Property) (behind : Option ℕ) (plan : SlotPlan)
+    → (plan.property ≡ property) × (plan.node ≡ behind) × (plan.target ≡ target_at steps behind property)
+    → slice_get (map (λ p. p.name) (properties_at schema id)) slot ≡ Some name → IfSome (slice_get (properties_at schema id) slot) (λ p. IsReadAs schema p property)
     → behind ≡ node_behind steps node name → IsSlotPlan schema steps id node slot plan
-slot_made schema steps id node slot name property behind key plan made named at read stands =
-    let own : plan.key ≡ name = subst (λ (o : Option (List ℕ)). IfSome o (λ k. k ≡ name)) made.0 named in
+slot_made schema steps id node slot name property behind plan made at read stands =
     record {
-      named = (at ∙ ap Some (sym own), subst (λ (q : Property). IfSome (slice_get (properties_at schema id) slot) (λ p. IsReadAs schema p q)) (sym made.1) read);
-      behind = made.2 ∙ stands ∙ ap (node_behind steps node) (sym own);
-      leads = made.3 ∙ ap₂ (target_at steps) (sym made.2) (sym made.1);
+      name = name;
+      named = (at, subst (λ (q : Property). IfSome (slice_get (properties_at schema id) slot) (λ p. IsReadAs schema p q)) (sym made.0) read);
+      behind = made.1 ∙ stands;
+      leads = made.2 ∙ ap₂ (target_at steps) (sym made.1) (sym made.0);
     }
 
 pub plan_there : (schema : SchemaModel) (steps : List StepModel) (plans : List TypePlan) (place : ℕ) (plan : TypePlan) → ArePlans schema steps plans → slice_get plans place ≡ Some plan
     → IsPlan schema steps plan
 plan_there schema steps plans place plan are at = each_at (λ _. IsPlan schema steps) plans place plan are at
-
-pub some_by : {V : Type 0} (r : Option V) (P Q : V → Type 0) → ((v : V) → P v → Q v) → IfSome r P → IfSome r Q
-some_by (Some v) P Q by holds = by v holds
-some_by None P Q by holds = tt
-
--- numbers one after another
-pub below_next : (P : ℕ → Type 0) (n : ℕ) → ((k : ℕ) → k < n → P k) → P n → (k : ℕ) → k < n + 1 → P k
-below_next P n below here k less = by (k == n) refl
-  where
-    by : (b : Bool) → (k == n) ≡ b → P k
-    by true e = subst P (sym (eqb-true k n e)) here
-    by false e = let other = eqb-false k n e in below k (lt_of_not-le (λ past. other (omega (arith, less, past))))
-
--- a name stands at a property's place
-pub named_within : (ps : List PropertyModel) (k : ℕ) (name : List ℕ) → slice_get (map (λ p. p.name) ps) k ≡ Some name → k < length ps
-named_within [] k name at = absurd (cc)
-named_within (p ∷ ps) zero name at = omega arith
-named_within (p ∷ ps) (suc k) name at = omega (arith, named_within ps k name at)

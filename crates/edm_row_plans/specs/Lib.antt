@@ -4,5 +4,4 @@ pub use Rattle.csdl_schema.specs.PropertyView
 pub use Rattle.csdl_schema.specs.SchemaModel
 pub mod Expanded
 pub mod ExpandedNodes
-pub mod PassedNames
 pub mod Plans

@@ -19,13 +19,14 @@ IsSlotNamed schema id name slot property =
 abbrev pub target_at : List StepModel → Option ℕ → Property → Option ℕ
 target_at steps node property = target_if (paths_at steps node []) (target_of property)
 
--- it is a slot of a type after a node: its name and its property, the node after that, and the target, if the property
--- navigates and is expanded
+-- it is a slot of a type after a node: its property, which has a name, the node after that, and the target, if the
+-- property navigates and is expanded
 pub record IsSlotPlan
     (schema : SchemaModel) (steps : List StepModel) (id : ℕ) (node : Option ℕ) (slot : ℕ) (plan : SlotPlan)
     : Type 0 where
-  pub named : IsSlotNamed schema id plan.key slot plan.property
-  pub behind : plan.node ≡ node_behind steps node plan.key
+  pub name : List ℕ
+  pub named : IsSlotNamed schema id name slot plan.property
+  pub behind : plan.node ≡ node_behind steps node name
   pub leads : plan.target ≡ target_at steps plan.node plan.property
 
 -- they are the slots of a type after a node

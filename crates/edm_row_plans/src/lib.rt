@@ -4,9 +4,8 @@
 //! use csdl_schema::Expansion;
 //! use edm_row_plans::RowPlan;
 //!
-//! let mut plan = RowPlan::new(alloc, &schema, id, &Expansion::none(alloc));
-//! plan.pass_collections(&schema)?;
-//! plan.keep(&schema, "Tags");
+//! let plan = RowPlan::new(alloc, &schema, id, &Expansion::none(alloc));
+//! assert!(rt; plan.is_whole);
 //! ```
 #![tactic(auto)]
 

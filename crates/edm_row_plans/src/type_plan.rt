@@ -1,14 +1,12 @@
-//! The types that a row may hold, looked up once for all rows: a plan has of each slot its name, as it stands in a row,
-//! its property, and what is expanded after it.
-ghost use Rattle.std.specs.Prelude.{◌≡◌, ◌<◌, List, length, slice_get, Some, IfSome, IsTrue};
+//! The types that a row may hold, looked up once for all rows: a plan has of each slot its property, and what is expanded
+//! after it.
+ghost use Rattle.std.specs.Prelude.{◌≡◌, List, slice_get, Some, IfSome, IsTrue};
 ghost use Rattle.csdl_schema.specs.ExpansionView.{StepModel};
-ghost use Rattle.csdl_schema.specs.SchemaModel.{SchemaModel, properties_at};
-ghost use Rattle.edm_row_plans.specs.Plans.{ArePlanned, ArePlans, IsPlan, IsSlotPlan, target_at};
+ghost use Rattle.csdl_schema.specs.SchemaModel.{SchemaModel};
+ghost use Rattle.edm_row_plans.specs.Plans.{ArePlanned, ArePlans, IsPlan, target_at};
 
 use super::expansion_node::{WalkContext, expanded_target, node_behind};
-use super::wanted::{Wanted, wanted_with};
-use csdl_schema::{Expansion, Property, Schema, TypeId};
-use json_tokens::Key;
+use csdl_schema::{Expansion, Property, PropertyKind, Schema, TypeId};
 use std::alloc::Global;
 
 /// How many types have plans, and how many slots these have together.
@@ -17,9 +15,8 @@ const TYPES: usize = 512;
 const SLOTS: usize = 8_192;
 
 /// A slot of a type.
-#[derive(Drop)]
+#[derive(Clone, Copy, Drop)]
 pub struct SlotPlan {
-    pub key: Key,
     pub property: Property,
     /// The node of the expansion after it.
     pub node: Option<usize>,
@@ -79,80 +76,40 @@ fn place_for(types: &mut Vec<NeededType>, type_id: TypeId, node: Option<usize>) 
     Some(place)
 }
 
-/// Where the plan of a property's type is to be.
+/// Where the plan of the type that a property holds is to be: at index 0 if it holds no complex or entity type.
 fn record_of(
-    context: &WalkContext<'_>,
-    property: &Property,
+    kind: PropertyKind,
+    target: Option<TypeId>,
     node: Option<usize>,
     types: &mut Vec<NeededType>,
 ) -> Option<usize> {
-    let target = expanded_target(context, property, node);
-    let Some(wanted) = wanted_with(property, target) else {
-        return Some(0);
-    };
-    match wanted {
-        Wanted::Complex(type_id) => place_for(types, type_id, node),
+    match kind {
+        PropertyKind::Complex(type_id) => place_for(types, type_id, node),
+        PropertyKind::Navigation => match target {
+            Some(type_id) => place_for(types, type_id, node),
+            None => Some(0),
+        },
         _ => Some(0),
     }
 }
 
-/// A slot, if it has a name and an index.
-fn slot_of(
-    key: Option<Key>,
-    property: Property,
-    node: Option<usize>,
-    target: Option<TypeId>,
-    record: Option<usize>,
-) -> Option<SlotPlan>
-    ensures { IfSome result (λ plan. (key ≡ Some plan.key) × (plan.property ≡ property) × (plan.node ≡ node)
-        × (plan.target ≡ target)) }
-{
-    let Some(key) = key else {
-        return None;
-    };
-    match record {
-        Some(record) => Some(SlotPlan {
-            key,
-            property,
-            node,
-            target,
-            record,
-        }),
-        None => None,
-    }
-}
-
-/// The slot of a property after a node.
-fn slot_behind(
-    context: &WalkContext<'_>,
-    key: Option<Key>,
-    property: &Property,
-    node: Option<usize>,
-    types: &mut Vec<NeededType>,
-) -> Option<SlotPlan>
-    ensures { IfSome result (λ plan. (key ≡ Some plan.key) × (plan.property ≡ property.now) × (plan.node ≡ node)
-        × (plan.target ≡ target_at context.now.expansion.now node property.now)) }
-{
-    let record = record_of(context, property, node, types);
-    let target = expanded_target(context, property, node);
-    slot_of(key, *property, node, target, record)
-}
-
+/// The slot of a property, with the node after it.
 fn slot_plan(
     context: &WalkContext<'_>,
-    type_id: TypeId,
+    property: &Property,
     node: Option<usize>,
-    slot: usize,
-    types: &mut Vec<NeededType>,
-) -> Option<SlotPlan>
-    requires { slot < length (properties_at context.now.schema.now type_id) }
-    ensures { IfSome result (IsSlotPlan context.now.schema.now context.now.expansion.now type_id node slot) }
+    record: usize,
+) -> SlotPlan
+    ensures property { result.property ≡ property.now }
+    ensures node { result.node ≡ node }
+    ensures target { result.target ≡ target_at context.now.expansion.now node property.now }
 {
-    let name = context.schema.slot_name(type_id, slot);
-    let behind = node_behind(context, node, name);
-    let key = Key::new(context.alloc, name);
-    let property = context.schema.property(type_id, slot);
-    slot_behind(context, key, property, behind, types)
+    SlotPlan {
+        property: *property,
+        node,
+        target: expanded_target(context, property, node),
+        record,
+    }
 }
 
 fn slot_plans(
@@ -166,10 +123,17 @@ fn slot_plans(
 {
     let mut slots = Vec::new(context.alloc);
     for slot in 0..context.schema.slots(type_id) {
-        let Some(plan) = slot_plan(context, type_id, node, slot, types) else {
+        let property = context.schema.property(type_id, slot);
+        let kind = property.kind;
+        let after = node_behind(context, node, context.schema.slot_name(type_id, slot));
+        let target = expanded_target(context, property, after);
+        let Some(record) = record_of(kind, target, after, types) else {
             return None;
         };
-        if slots.push(plan).is_err() {
+        if slots
+            .push(slot_plan(context, property, after, record))
+            .is_err()
+        {
             return None;
         }
     }

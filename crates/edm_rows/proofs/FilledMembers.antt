@@ -8,25 +8,27 @@ use Rattle.serde_json.specs.Data.{Data, Members, object}
 use Rattle.csdl_schema.specs.SchemaModel.{HasDistinctNames, PropertyModel, Slots, properties_at, slots_behind}
 use Rattle.edm_values.specs.declared.value.Value.{Value, Null}
 use Rattle.edm_entities.specs.Row.{val_of}
-use Rattle.edm_entities.specs.private.Passed.{FitsSeen, MayBeAbsent}
-use Rattle.edm_entities.specs.private.RowTokens.{ReadsMembers}
-use Rattle.edm_entities.specs.private.SlotsSoFar.{HoldEachSoFar, HoldsSoFar, SlotsSoFar}
+use Rattle.edm_rows.specs.private.Passed.{FitsSeen, MayBeAbsent}
+use Rattle.json_room.specs.private.ItemTokens.{ReadsMembers}
+use Rattle.edm_rows.specs.private.SlotsSoFar.{HoldEachSoFar, HoldsSoFar, SlotsSoFar}
 use Rattle.edm_entities.specs.private.Walk.{FitSlots, FitsSlot, HoldEach, HoldsInSlot}
 use Rattle.std.proofs.lemmas.List.{length-set}
+use Rattle.json.specs.Lex.{fresh, after_value}
 use Rattle.edm_rows.proofs.SlotsHeld.{found_in, others_hold, slot_set, slots_start}
 use Rattle.edm_entities.proofs.SlotLemmas.EachSlot.{null_in_slot}
-use Rattle.json_tokens.specs.private.Lexemes.{PassesSpaces}
-use Rattle.json_tokens.specs.declared.lexeme.Turn.TheVariants.{AfterValue, Fresh}
+use Rattle.json_room.specs.private.Lexemes.{PassesSpaces}
 use Rattle.json_room.specs.Lexemes.{tokens_at}
 use Rattle.edm_rows.specs.declared.members.After.{After}
 use Rattle.edm_rows.specs.declared.passed_value.ReadContext.{ReadContext}
 use Rattle.edm_rows.specs.declared.row_types.RowType.{RowType}
 use Rattle.edm_rows.specs.private.Filled.{FilledRead, FilledUpTo, FillsSlots}
-use Rattle.edm_rows.specs.private.Held.{ReadsTo}
-use Rattle.edm_rows.specs.private.Members.{EndsMember, NamesTo, PassesOther}
+use Rattle.json_room.specs.ValueStands.{ValueStands}
+use Rattle.json_room.specs.private.ValuesStand.{NamesTo}
+use Rattle.edm_rows.specs.private.Members.{EndsMember, PassesOther}
+use Rattle.seen_slots.specs.SlotBits.{bits_of}
 use Rattle.edm_rows.specs.private.Contexts.{slots_behind_node}
 use Rattle.edm_rows.proofs.KeptMembers.{marks_more, no_marks, none_long, none_set, two_bits}
-use Rattle.edm_rows.proofs.Places.{brace_then, comma_then, member_then, members_begin, no_members_read}
+use Rattle.json_room.proofs.Places.{brace_then, comma_then, member_then, members_begin, no_members_read}
 
 -- ---- at the end each slot was filled, or is null and may be
 
@@ -79,7 +81,7 @@ module _ (context : ReadContext) (type : RowType) (depth : ℕ) where
       → index < length (properties_at context.schema.now type.type_id) → slice_get (map (λ p. p.name) (properties_at context.schema.now type.type_id)) index ≡ Some name
       → ((json : Data) → Q json → IfSome (slice_get (properties_at context.schema.now type.type_id) index) (λ p. FitsSeen (slots_behind (slots_behind_node context type.node) p.name) p.nullable p.type_of (Some json) (val_of v))
       × IfSome (slice_get (properties_at context.schema.now type.type_id) index) (λ p. HoldsInSlot (slots_behind (slots_behind_node context type.node) p.name) p.type_of v))
-      → FilledUpTo context type depth from place seen values → NamesTo context.line place name value → ReadsTo depth context.line value end Q → FilledRead context type depth from end (bit_or seen (2 ^ index)) (slice_set values index v)
+      → FilledUpTo context type depth from place seen values → NamesTo context.line place name value → ValueStands depth context.line value end Q → FilledRead context type depth from end (bit_or seen (2 ^ index)) (slice_set values index v)
   filled_slot from place value end seen index name values v Q distinct within named fits so_far names reads =
       let filled = slice_set so_far.filled index true in
       record {
@@ -112,7 +114,7 @@ module _ (context : ReadContext) (type : RowType) (depth : ℕ) where
 
   -- ---- at the brace
 
-  module _ (may : (k : ℕ) → bit_at type.optional k ≡ 1 → IfSome (slice_get (properties_at context.schema.now type.type_id) k) (MayBeAbsent (slots_behind_node context type.node)))
+  module _ (may : (k : ℕ) → bit_at (bits_of type.optional.words) k ≡ 1 → IfSome (slice_get (properties_at context.schema.now type.type_id) k) (MayBeAbsent (slots_behind_node context type.node)))
       (as_many : length type.slots.items ≡ length (properties_at context.schema.now type.type_id)) (seen : ℕ) (old new : List Value) (fills : FillsSlots type seen old new) (long : length old ≡ length (properties_at context.schema.now type.type_id)) where
     absent_at : (k : ℕ) → bit_at seen k ≡ 0 → IfSome (slice_get (properties_at context.schema.now type.type_id) k) (λ p. MayBeAbsent (slots_behind_node context type.node) p × (slice_get new k ≡ Some Null))
     absent_at k none =
@@ -126,7 +128,7 @@ module _ (context : ReadContext) (type : RowType) (depth : ℕ) where
         with_null (Some p) a null = (a, null)
 
     pub filled_brace : (from end next : ℕ) → FilledRead context type depth from end seen old → EndsMember context.line end (After.Brace next)
-        → ReadsMembers depth (tokens_at Fresh context.line from) (tokens_at AfterValue context.line next) (λ found. FitSlots (slots_behind_node context type.node) (object found) (properties_at context.schema.now type.type_id) new)
+        → ReadsMembers depth (tokens_at fresh context.line from) (tokens_at after_value context.line next) (λ found. FitSlots (slots_behind_node context type.node) (object found) (properties_at context.schema.now type.type_id) new)
     filled_brace from end next read ends =
         brace_then depth context.line from end next (λ found. SlotsSoFar slots ps found read.filled old) (λ found. FitSlots slots (object found) ps new)
         (λ found holds. filled_over slots (found_in found) ps read.filled old new (fills.long ∙ long) (λ k is. fills.stay k (set k is))
@@ -140,7 +142,7 @@ module _ (context : ReadContext) (type : RowType) (depth : ℕ) where
 
     -- where no member stands
     pub filled_empty : (from brace : ℕ) → seen ≡ 0 → PassesSpaces context.line from brace → brace < length context.line → get_or context.line brace 32 ≡ 125
-        → ReadsMembers depth (tokens_at Fresh context.line from) (tokens_at AfterValue context.line (brace + 1)) (λ found. FitSlots (slots_behind_node context type.node) (object found) (properties_at context.schema.now type.type_id) new)
+        → ReadsMembers depth (tokens_at fresh context.line from) (tokens_at after_value context.line (brace + 1)) (λ found. FitSlots (slots_behind_node context type.node) (object found) (properties_at context.schema.now type.type_id) new)
     filled_empty from brace none passed within is =
         let n = length (properties_at context.schema.now type.type_id) in
         let filled = replicate n false in

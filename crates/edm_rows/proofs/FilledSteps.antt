@@ -1,5 +1,5 @@
 -- One member more of an object that fills a record, by what its slot is.
-use Rattle.std.proofs.Common.{◌≡◌, ◌^◌, ℕ, ◌<◌, List, length, map, slice_get, slice_set, Bool, Option, None, Some, IfSome, Bor, bit_or, sym, subst}
+use Rattle.std.proofs.Common.{◌≡◌, ◌*◌, ◌%◌, ◌^◌, ℕ, ◌<◌, ◌≤◌, List, length, map, slice_get, slice_set, Bool, Option, None, Some, IfSome, Bor, bit_or, sym, subst, arith}
 use Rattle.std.specs.Prelude.{option_map}
 use Rattle.serde_json.specs.Data.{Data}
 use Rattle.csdl_schema.specs.PropertyView.{property_type}
@@ -8,20 +8,22 @@ use Rattle.edm_values.specs.declared.value.Value.{Value}
 use Rattle.edm_row_plans.specs.Expanded.{slots_at}
 use Rattle.edm_row_plans.specs.declared.type_plan.TypePlan.{TypePlan}
 use Rattle.edm_entities.specs.Row.{val_of}
-use Rattle.edm_entities.specs.private.Passed.{FitsSeen}
+use Rattle.edm_rows.specs.private.Passed.{FitsSeen}
 use Rattle.edm_entities.specs.private.Walk.{HoldsInSlot}
-use Rattle.edm_entities.proofs.RowLemmas.SlotTexts.{slot_declared}
+use Rattle.edm_rows.proofs.RowLemmas.SlotTexts.{slot_declared}
 use Rattle.edm_rows.proofs.SlotsHeld.{slot_within}
 use Rattle.edm_rows.specs.declared.members.Found.{Found}
 use Rattle.edm_rows.specs.declared.passed_value.ReadContext.{ReadContext}
 use Rattle.edm_rows.specs.declared.row_types.RowSlot.{RowSlot}
 use Rattle.edm_rows.specs.declared.row_types.RowType.{RowType}
 use Rattle.edm_rows.specs.private.Filled.{FilledRead, FilledUpTo, FillsValue, IsFilledIn}
-use Rattle.edm_rows.specs.private.Members.{NamesSlot, NamesTo, PassesOther}
+use Rattle.json_room.specs.private.ValuesStand.{NamesTo}
+use Rattle.edm_rows.specs.private.Members.{NamesSlot, PassesOther}
 use Rattle.edm_rows.specs.private.RowSlots.{IsRowType, IsSlotOf, IsTaskOf}
+use Rattle.edm_rows.specs.private.SeenSlots.{HasMark}
 use Rattle.edm_rows.specs.private.Contexts.{FindsMember, FindsSlot, slots_behind_node}
 use Rattle.edm_rows.proofs.FilledMembers.{filled_slot}
-use Rattle.edm_rows.proofs.NextMembers.{slot_there}
+use Rattle.edm_rows.proofs.NextMembers.{at_within, slot_there}
 
 -- a member whose slot was found: its name, and what its slot is
 pub record SlotFound (context : ReadContext) (type : RowType) (place value : ℕ) (slot : RowSlot) : Type 0 where
@@ -31,11 +33,11 @@ pub record SlotFound (context : ReadContext) (type : RowType) (place value : ℕ
   pub within : slot.index < length (properties_at context.schema.now type.type_id)
   pub agrees : IsSlotOf context.plan.now.plans.items slot
   pub task : IsTaskOf slot slot.task
-  pub order : slot.order < 256
+  pub order : slot.order < 1024
   pub fits : (v : Value) (json : Data) → IsFilledIn context slot slot.task v json
       → IfSome (slice_get (properties_at context.schema.now type.type_id) slot.index) (λ p. FitsSeen (slots_behind (slots_behind_node context type.node) p.name) p.nullable p.type_of (Some json) (val_of v))
       × IfSome (slice_get (properties_at context.schema.now type.type_id) slot.index) (λ p. HoldsInSlot (slots_behind (slots_behind_node context type.node) p.name) p.type_of v)
-  pub bit : (b : ℕ) (values : List Value) (depth from end : ℕ) → FilledRead context type depth from end (bit_or b (2 ^ slot.index)) values → FilledRead context type depth from end (bit_or b slot.bit) values
+  pub mark : (words : ℕ) → length type.slots.items ≤ words → HasMark words slot
 
 pub slot_found_in : (context : ReadContext) (plan : TypePlan) (type : RowType) (depth place : ℕ) (found : Found) (slot : Bor RowSlot) → found.slot ≡ Some slot → IsRowType context.schema.now context.plan.now.expansion context.plan.now.plans.items plan type
     → FindsMember context type depth place found → SlotFound context type place found.place slot.now
@@ -65,15 +67,17 @@ slot_found_in context plan type depth place found slot is_slot is finds = go (su
           fits = λ v json filled.
               let fits = made.row.fills v json filled in
               (declared (λ slots nullable t. FitsSeen slots nullable t (Some json) (val_of v)) fits.0, declared (λ slots nullable t. HoldsInSlot slots t v) fits.1);
-          bit = λ b values d from end read. subst (λ (w : ℕ). FilledRead context type d from end (bit_or b w) values) (sym (subst (λ (k : ℕ). slot.now.bit ≡ 2 ^ k) same made.row.bit)) read;
+          mark = λ words room. record {
+            within = omega (arith, room, subst (λ (k : ℕ). k < length type.slots.items) same (at_within type.slots.items index slot.now at));
+            bit = made.row.bit;
+          };
         }
 
 pub slot_filled_read : (context : ReadContext) (plan : TypePlan) (type : RowType) (depth from place value end seen : ℕ) (slot : RowSlot) (values : List Value) (v : Value) → IsRowType context.schema.now context.plan.now.expansion context.plan.now.plans.items plan type
-    → SlotFound context type place value slot → FilledUpTo context type depth from place seen values → FillsValue context slot slot.task depth v value end → FilledRead context type depth from end (bit_or seen slot.bit) (slice_set values slot.index v)
+    → SlotFound context type place value slot → FilledUpTo context type depth from place seen values → FillsValue context slot slot.task depth v value end → FilledRead context type depth from end (bit_or seen (2 ^ slot.index)) (slice_set values slot.index v)
 slot_filled_read context plan type depth from place value end seen slot values v is found so_far fills =
-    found.bit seen (slice_set values slot.index v) depth from end
-    (filled_slot context type depth from place value end seen slot.index found.name values v (IsFilledIn context slot slot.task v) (subst (λ id. HasDistinctNames (properties_at context.schema.now id)) (sym is.of_type.0) is.is_plan.distinct) found.within found.named (found.fits v)
-    so_far found.names fills.0)
+    filled_slot context type depth from place value end seen slot.index found.name values v (IsFilledIn context slot slot.task v) (subst (λ id. HasDistinctNames (properties_at context.schema.now id)) (sym is.of_type.0) is.is_plan.distinct) found.within found.named (found.fits v)
+    so_far found.names fills.0
 
 -- a member of no slot
 pub no_slot_in : (context : ReadContext) (type : RowType) (depth place : ℕ) (found : Found) → found.slot ≡ None → FindsMember context type depth place found → PassesOther depth context.line (properties_at context.schema.now type.type_id) place found.place

@@ -14,16 +14,18 @@ use Rattle.edm_values.specs.declared.value.Value.{Value, Null, Record as RecordO
 use Rattle.edm_entities.specs.Fits.{FitsType}
 use Rattle.edm_entities.specs.HoldsEachSlot.{HoldsEachSlot}
 use Rattle.edm_entities.specs.Row.{val_of}
-use Rattle.edm_entities.specs.private.RowTokens.{FitsHoweverNullable, append_items}
+use Rattle.json_room.specs.private.ItemTokens.{append_items}
+use Rattle.edm_rows.specs.private.Passed.{FitsHoweverNullable}
+use Rattle.json_room.proofs.Tokens.{null_token as null_read}
 use Rattle.edm_entities.specs.private.Walk.{FitList, FitSlots, HoldInItems}
-use Rattle.edm_entities.proofs.RowLemmas.Leaves.{not_null_fits, null_token as null_read}
-use Rattle.edm_entities.proofs.RowLemmas.Parts.{fit_push, list_held, record_held}
+use Rattle.edm_rows.proofs.RowLemmas.Leaves.{not_null_fits}
+use Rattle.edm_rows.proofs.RowLemmas.Parts.{fit_push, list_held, record_held}
 use Rattle.std.proofs.lemmas.List.{take_more_set}
+use Rattle.json.specs.Lex.{after_value}
 use Rattle.edm_rows.proofs.Indexes.{take_none}
 use Rattle.edm_entities.proofs.SlotLemmas.EachSlot.{holds_push, list_held as list_holds, member_holds, null_holds, primitive_holds, slots_held}
 use Rattle.edm_entities.proofs.SlotLemmas.FoundWalk.{val_of-Null}
-use Rattle.json_tokens.specs.private.Lexemes.{PassesSpaces}
-use Rattle.json_tokens.specs.declared.lexeme.Turn.TheVariants.{AfterValue}
+use Rattle.json_room.specs.private.Lexemes.{PassesSpaces}
 use Rattle.json_room.specs.Lexemes.{StandsTo, tokens_at}
 use Rattle.edm_rows.specs.declared.kept_leaf.Taken.{Taken}
 use Rattle.edm_rows.specs.declared.kept_leaf.Taken.TheVariants.{Put}
@@ -31,13 +33,14 @@ use Rattle.edm_rows.specs.declared.passed_value.ReadContext.{ReadContext}
 use Rattle.edm_rows.specs.declared.row_types.RowSlot.{RowSlot}
 use Rattle.edm_rows.specs.declared.row_types.RowType.{RowType}
 use Rattle.edm_rows.specs.declared.row_types.Task.{Task}
+use Rattle.json_room.specs.ValueStands.{ValueStands}
 use Rattle.edm_rows.specs.declared.row_types.Task.TheVariants.{Text, Number, Truth, Date, Moment, Guid, Member, Record, Items, Any}
 use Rattle.edm_rows.specs.private.Filled.{AreFilled, FillsItems, FillsMembers, FillsValue, IsFilledIn}
-use Rattle.edm_rows.specs.private.Held.{FilledAs, IsFilled, IsSingle, Kinds, ReadsTo, type_of}
+use Rattle.edm_rows.specs.private.Held.{FilledAs, IsFilled, IsSingle, Kinds, type_of}
+use Rattle.json_room.proofs.Places.{ItemsUpTo, array_to, begins_at, item_and_bracket, item_and_comma, items_begin, no_items_read, object_to, reads_behind, reads_to_as}
 use Rattle.edm_rows.specs.private.KeptLeaves.{PutsLeaf, PutsMember, TakesLeaf}
 use Rattle.edm_rows.specs.private.RowSlots.{kinds_of, name_at}
 use Rattle.edm_rows.specs.private.Contexts.{slots_behind_node}
-use Rattle.edm_rows.proofs.Places.{ItemsUpTo, array_to, begins_at, item_and_bracket, item_and_comma, items_begin, no_items_read, object_to, reads_behind, reads_to_as}
 use Rattle.edm_rows.proofs.ContextLemmas.{IsTypeThere}
 
 -- ---- values without parts
@@ -91,10 +94,10 @@ module _ (slots : Slots) (kinds : Kinds) (nullable : Bool) (inner : Task) where
   module _ (depth : ℕ) (line : List ℕ) (from : ℕ) (v : Value) where
     -- what stands there, and that it is of some JSON
     abbrev Fills : Task → ℕ → Type 0
-    Fills task to = ReadsTo depth line from to (FilledAs slots kinds nullable inner task v) × ((json : Data) × FilledAs slots kinds nullable inner task v json)
+    Fills task to = ValueStands depth line from to (FilledAs slots kinds nullable inner task v) × ((json : Data) × FilledAs slots kinds nullable inner task v json)
 
     pub leaf_filled : (task known : Task) (type : PrimitiveType) (o : Option ℕ) → task ≡ known → IsSingle known → type_of kinds known ≡ primitive type → IfSome o (PutsLeaf line (primitive type) v from)
-        → IfSome o (λ to. ReadsTo depth line from to (FilledAs slots kinds nullable inner task v) × ((json : Data) × FilledAs slots kinds nullable inner task v json))
+        → IfSome o (λ to. ValueStands depth line from to (FilledAs slots kinds nullable inner task v) × ((json : Data) × FilledAs slots kinds nullable inner task v json))
     leaf_filled task known type None is some of puts = tt
     leaf_filled task known type (Some to) is some of puts =
         let filled : (json : Data) → FitsHoweverNullable slots (single (primitive type)) v json → FilledAs slots kinds nullable inner known v json = λ json fits.
@@ -103,7 +106,7 @@ module _ (slots : Slots) (kinds : Kinds) (nullable : Bool) (inner : Task) where
         (reads_to_as depth line from to (FitsHoweverNullable slots (single (primitive type)) v) (FilledAs slots kinds nullable inner known v) filled (puts.1 slots depth), (puts.0.0, filled puts.0.0 (puts.0.1 slots)))
 
     pub member_text_filled : (task : Task) (o : Option ℕ) → task ≡ Member → IfSome o (PutsMember line slots kinds.enumeration v from)
-        → IfSome o (λ to. ReadsTo depth line from to (FilledAs slots kinds nullable inner task v) × ((json : Data) × FilledAs slots kinds nullable inner task v json))
+        → IfSome o (λ to. ValueStands depth line from to (FilledAs slots kinds nullable inner task v) × ((json : Data) × FilledAs slots kinds nullable inner task v json))
     member_text_filled task None is puts = tt
     member_text_filled task (Some to) is puts =
         subst (λ t. Fills t to) (sym is) (
@@ -112,7 +115,7 @@ module _ (slots : Slots) (kinds : Kinds) (nullable : Bool) (inner : Task) where
         )
 
     pub null_filled_to : (task : Task) (o : Option ℕ) → IsSingle task → IfSome o (StandsTo line from null_token) → IfSome o (λ to. (nullable ≡ true) × (v ≡ Null))
-        → IfSome o (λ to. ReadsTo depth line from to (FilledAs slots kinds nullable inner task v) × ((json : Data) × FilledAs slots kinds nullable inner task v json))
+        → IfSome o (λ to. ValueStands depth line from to (FilledAs slots kinds nullable inner task v) × ((json : Data) × FilledAs slots kinds nullable inner task v json))
     null_filled_to task None some stands is = tt
     null_filled_to task (Some to) some stands is =
         let filled : FilledAs slots kinds nullable inner task v json_null = single_filled task v json_null some (null_filled (type_of kinds task) v is.0 is.1) in (
@@ -120,15 +123,15 @@ module _ (slots : Slots) (kinds : Kinds) (nullable : Bool) (inner : Task) where
             bounds = stands.bounds;
             reads = λ turn may_begin here. record {
               json = json_null;
-              is_read = ap (λ ts. converted of_json (json_value depth ts)) (begins_at line from to null_token turn may_begin stands here) ∙ null_read depth (tokens_at AfterValue line to);
+              is_read = ap (λ ts. converted of_json (json_value depth ts)) (begins_at line from to null_token turn may_begin stands here) ∙ null_read depth (tokens_at after_value line to);
               holds = filled;
             };
           },
           (json_null, filled),
         )
 
-    pub unseen_filled : (task : Task) (o : Option ℕ) → task ≡ Any → v ≡ Null → IfSome o (λ to. ReadsTo depth line from to (λ json. Unit {0}))
-        → IfSome o (λ to. ReadsTo depth line from to (FilledAs slots kinds nullable inner task v) × ((json : Data) × FilledAs slots kinds nullable inner task v json))
+    pub unseen_filled : (task : Task) (o : Option ℕ) → task ≡ Any → v ≡ Null → IfSome o (λ to. ValueStands depth line from to (λ json. Unit {0}))
+        → IfSome o (λ to. ValueStands depth line from to (FilledAs slots kinds nullable inner task v) × ((json : Data) × FilledAs slots kinds nullable inner task v json))
     unseen_filled task None is null reads = tt
     unseen_filled task (Some to) is null reads = subst (λ t. Fills t to) (sym is) (reads_to_as depth line from to (λ json. Unit {0}) (FilledAs slots kinds nullable inner Any v) (λ json _. null) reads, (json_null, null))
 

@@ -1,5 +1,5 @@
 -- Lists by their indexes.
-use Rattle.std.proofs.Common.{◌≡◌, ◌≢◌, ℕ, zero, suc, ◌<◌, List, [], ◌∷◌, length, take, slice_get, slice_set, Some, IfSome, refl, ap, subst, arith}
+use Rattle.std.proofs.Common.{◌≡◌, ◌≢◌, ℕ, zero, suc, ◌<◌, ◌≤◌, List, [], ◌∷◌, length, take, slice_get, slice_set, Some, IfSome, refl, ap, subst, arith}
 
 pub take_none : {X : Type 0} (xs : List X) → take 0 xs ≡ []
 take_none [] = refl
@@ -27,3 +27,10 @@ both_at [] ys P Q n long each by = tt
 both_at (x ∷ xs) [] P Q n long each by = absurd (omega (arith, long))
 both_at (x ∷ xs) (y ∷ ys) P Q zero long each by = by x y each
 both_at (x ∷ xs) (y ∷ ys) P Q (suc n) long each by = both_at xs ys P Q n (omega (arith, long)) each by
+
+-- nothing stands behind the end
+pub past_end : {X : Type 0} (P : X → Type 0) (xs : List X) (k : ℕ) → length xs ≤ k → IfSome (slice_get xs k) P
+past_end P [] zero past = tt
+past_end P [] (suc k) past = tt
+past_end P (x ∷ xs) zero past = absurd (omega (arith, past))
+past_end P (x ∷ xs) (suc k) past = past_end P xs k (omega (arith, past))

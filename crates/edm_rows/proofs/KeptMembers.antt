@@ -1,33 +1,34 @@
 -- The members of a row, of which those that are kept were put into its slots.
 use Rattle.std.proofs.Common.{◌≡◌, ◌≢◌, ◌⊎◌, inl, inr, ⊎_elim, ℕ, zero, suc, ◌+◌, ◌-◌, ◌*◌, ◌^◌, ◌<◌, ◌≤◌, List, [], ◌∷◌, length, map, slice_get, slice_set, get_or, Bool, true, false, Option, None, Some, IfSome, refl, sym, ap, ◌∙◌, subst, arith}
 use Rattle.std.specs.Int.{bit_at}
-use Rattle.std.specs.Prelude.{MatchBool, bit_and, bit_or, max, min, replicate}
+use Rattle.std.specs.Prelude.{MatchBool, bit_or, max, replicate}
 use Rattle.std.proofs.lemmas.Bool.{cases_lt, true≢false}
-use Rattle.std.proofs.lemmas.Nat.Bits.{and_pow, bit_at-lt, bit_at-pow_other, bit_at-pow_same, bit_at-zero, bit_at_and, bit_at_ones, bit_at_or}
+use Rattle.std.proofs.lemmas.Nat.Bits.{bit_at-lt, bit_at-pow_other, bit_at-pow_same, bit_at-zero, bit_at_or}
 use Rattle.serde_json.specs.Data.{Data, Members, no_members, object, put}
 use Rattle.serde_json.specs.Find.{get_member}
 use Rattle.serde_json.proofs.Views.{get_member-put, get_member-put_other}
 use Rattle.csdl_schema.specs.SchemaModel.{HasDistinctNames, PropertyModel, Slots, slots_behind}
 use Rattle.edm_values.specs.declared.value.Value.{Value, Null}
-use Rattle.edm_row_plans.specs.PassedNames.{Names}
+use Rattle.edm_rows.specs.RowReading.{Names}
 use Rattle.edm_entities.specs.Row.{ValAtType, val_of}
-use Rattle.edm_entities.specs.private.Passed.{FitSlotsBut, FitSomeSlots, FitsSeen, FitsSomeProperty, MayBeAbsent, PassedSoFar, SlotsSoFarBut, every_name}
-use Rattle.edm_entities.specs.private.RowTokens.{ReadsMembers}
-use Rattle.edm_entities.proofs.RowLemmas.Passing.{all_passed, others_passed, passed_set, passed_start, some_values}
+use Rattle.edm_rows.specs.private.Passed.{FitSlotsBut, FitSomeSlots, FitsSeen, FitsSomeProperty, MayBeAbsent, PassedSoFar, SlotsSoFarBut, every_name}
+use Rattle.json_room.specs.private.ItemTokens.{ReadsMembers}
+use Rattle.edm_rows.proofs.RowLemmas.Passing.{all_passed, others_passed, passed_set, passed_start, some_values}
 use Rattle.std.proofs.lemmas.List.{length-set}
+use Rattle.json.specs.Lex.{fresh, after_value}
 use Rattle.edm_rows.proofs.SlotsHeld.{apart, found_in, mark_set}
-use Rattle.json_tokens.specs.private.Lexemes.{PassesSpaces}
-use Rattle.json_tokens.specs.declared.lexeme.Turn.TheVariants.{AfterValue, Fresh}
+use Rattle.json_room.specs.private.Lexemes.{PassesSpaces}
 use Rattle.json_room.specs.Lexemes.{tokens_at}
 use Rattle.edm_rows.specs.declared.members.After.{After}
 use Rattle.edm_rows.specs.declared.passed_value.ReadContext.{ReadContext}
 use Rattle.edm_rows.specs.declared.row_types.RowSlot.{RowSlot}
-use Rattle.edm_rows.specs.private.Held.{ReadsTo}
+use Rattle.json_room.specs.ValueStands.{ValueStands}
+use Rattle.json_room.specs.private.ValuesStand.{NamesTo, MembersRead, MembersUpTo}
 use Rattle.edm_rows.specs.private.KeptRows.{IsRejectedIn, IsRowRejected, names_unkept_in, root_properties, root_slots}
 use Rattle.edm_rows.specs.private.KeptSoFar.{FillsAbsent, KeptRead, KeptUpTo, RejectedSoFar, SameMarks, SoFar}
-use Rattle.edm_rows.specs.private.Members.{EndsMember, NamesTo, PassesOther}
+use Rattle.edm_rows.specs.private.Members.{EndsMember, PassesOther}
 use Rattle.edm_rows.proofs.KeptSlots.{kept_over, passed_more, slot_stays}
-use Rattle.edm_rows.proofs.Places.{MembersRead, MembersUpTo, brace_then, comma_then, member_then, members_begin, no_members_read}
+use Rattle.json_room.proofs.Places.{brace_then, comma_then, member_then, members_begin, no_members_read}
 
 -- ---- names and marks
 
@@ -65,16 +66,6 @@ bit_stays seen index k is = omega (arith, bit_more seen index k, is, bit_at-lt (
 
 pub bit_set : (seen index : ℕ) → bit_at (bit_or seen (2 ^ index)) index ≡ 1
 bit_set seen index = omega (arith, bit_more seen index index, bit_at-pow_same index, bit_at-lt seen index)
-
--- and where it is not set none is
-pub none_bit : (seen index : ℕ) → bit_at seen index ≡ 0 → bit_and seen (2 ^ index) ≡ 0
-none_bit seen index none = and_pow seen index ∙ ap (λ (b : ℕ). b * 2 ^ index) none ∙ (let nothing : 0 * 2 ^ index ≡ 0 = omega arith in nothing)
-
--- where no bit is common to both, the one is not set
-pub bit_none : (seen index : ℕ) → bit_and seen (2 ^ index) ≡ 0 → bit_at seen index ≡ 0
-bit_none seen index none =
-    let both : min (bit_at seen index) (bit_at (2 ^ index) index) ≡ 0 = sym (bit_at_and seen (2 ^ index) index) ∙ ap (λ n. bit_at n index) none ∙ bit_at-zero index in
-    omega (arith, both, bit_at-pow_same index)
 
 pub marks_more : (seen index : ℕ) (filled : List Bool) → index < length filled → SameMarks seen filled → SameMarks (bit_or seen (2 ^ index)) (slice_set filled index true)
 marks_more seen index filled within same =
@@ -131,7 +122,7 @@ module _ (context : ReadContext) (rows : List RowSlot) where
 
     behind : (is_left_out next : Bool) (old new : List Value) (Q : Data → Type 0)
         → ((filled : List Bool) (found : Members) (json : Data) → SoFar context rows is_left_out seen filled old found → Q json → SoFar context rows next more (slice_set filled slot.index true) new (put name json found))
-        → KeptUpTo context rows from place seen is_left_out old → ReadsTo context.depth context.line value end Q → KeptRead context rows from end more next new
+        → KeptUpTo context rows from place seen is_left_out old → ValueStands context.depth context.line value end Q → KeptRead context rows from end more next new
     behind is_left_out next old new Q by so_far reads =
         let filled = slice_set so_far.filled slot.index true in
         record {
@@ -148,11 +139,11 @@ module _ (context : ReadContext) (rows : List RowSlot) where
 
     -- the value that was rejected is another slot's
     rejected_stays : (found : Members) (json : Data) → (slot.is_kept ≡ true → bit_at seen slot.index ≡ 0) → RejectedSoFar context rows seen found → RejectedSoFar context rows more (put name json found)
-    rejected_stays found json fresh before =
+    rejected_stays found json not_yet before =
         let other : slot.index ≢ before.slot.index = λ same.
         let one : Some slot ≡ Some before.slot = sym is_slot ∙ ap (slice_get rows) same ∙ before.is_slot in
         let kept : slot.is_kept ≡ true = let is : slot ≡ before.slot = cc in ap (λ (s : RowSlot). s.is_kept) is ∙ before.is_kept in
-        omega (arith, fresh kept, ap (bit_at seen) same, before.was_seen) in
+        omega (arith, not_yet kept, ap (bit_at seen) same, before.was_seen) in
         record {
           slot = before.slot;
           is_slot = before.is_slot;
@@ -167,18 +158,18 @@ module _ (context : ReadContext) (rows : List RowSlot) where
 
     -- a value that is passed once another was rejected
     pub passed_left_out : (values : List Value) → (slot.is_kept ≡ true → bit_at seen slot.index ≡ 0) → KeptUpTo context rows from place seen true values
-        → ReadsTo context.depth context.line value end (λ json. IfSome (slice_get (root_properties context) slot.index) (λ p. FitsSomeProperty (slots_behind (root_slots context) p.name) p.nullable p.type_of (Some json))) → KeptRead context rows from end more true values
-    passed_left_out values fresh =
+        → ValueStands context.depth context.line value end (λ json. IfSome (slice_get (root_properties context) slot.index) (λ p. FitsSomeProperty (slots_behind (root_slots context) p.name) p.nullable p.type_of (Some json))) → KeptRead context rows from end more true values
+    passed_left_out values not_yet =
         behind true true values values (λ json. IfSome (slice_get (root_properties context) slot.index) (λ p. FitsSomeProperty (slots_behind (root_slots context) p.name) p.nullable p.type_of (Some json)))
         (λ filled found json so_far fits.
         let seen_as = seen_at json (slice_get ps slot.index) fits in (
           (slice_set so_far.0.0 slot.index Null, passed_set slots every_name found name json ps filled so_far.0.0 slot.index Null seen_as.0 distinct named seen_as.1 (inl tt) so_far.0.1),
-          rejected_stays found json fresh so_far.1,
+          rejected_stays found json not_yet so_far.1,
         ))
 
     -- a value that is passed because its slot is not kept
     pub passed_unkept : (values : List Value) → slot.is_kept ≡ false → length values ≡ length (root_properties context) → KeptUpTo context rows from place seen false values
-        → ReadsTo context.depth context.line value end (λ json. IfSome (slice_get (root_properties context) slot.index) (λ p. FitsSomeProperty (slots_behind (root_slots context) p.name) p.nullable p.type_of (Some json))) → KeptRead context rows from end more false values
+        → ValueStands context.depth context.line value end (λ json. IfSome (slice_get (root_properties context) slot.index) (λ p. FitsSomeProperty (slots_behind (root_slots context) p.name) p.nullable p.type_of (Some json))) → KeptRead context rows from end more false values
     passed_unkept values unkept long =
         let there = item_at values slot.index (omega (arith, within, long)) in
         behind false false values values (λ json. IfSome (slice_get (root_properties context) slot.index) (λ p. FitsSomeProperty (slots_behind (root_slots context) p.name) p.nullable p.type_of (Some json)))
@@ -194,14 +185,14 @@ module _ (context : ReadContext) (rows : List RowSlot) where
 
     -- a value that is put into its slot
     pub taken : (values : List Value) (v : Value) → KeptUpTo context rows from place seen false values
-        → ReadsTo context.depth context.line value end (λ json. IfSome (slice_get (root_properties context) slot.index) (λ p. FitsSeen (slots_behind (root_slots context) p.name) p.nullable p.type_of (Some json) (val_of v)))
+        → ValueStands context.depth context.line value end (λ json. IfSome (slice_get (root_properties context) slot.index) (λ p. FitsSeen (slots_behind (root_slots context) p.name) p.nullable p.type_of (Some json) (val_of v)))
         → KeptRead context rows from end more false (slice_set values slot.index v)
     taken values v =
         behind false false values (slice_set values slot.index v) (λ json. IfSome (slice_get (root_properties context) slot.index) (λ p. FitsSeen (slots_behind (root_slots context) p.name) p.nullable p.type_of (Some json) (val_of v)))
         (λ filled found json so_far fits. passed_set slots Unkept found name json ps filled values slot.index v (val_of v) distinct named fits (inr refl) so_far)
 
     -- a value that is rejected
-    pub rejected_now : (values : List Value) → slot.is_kept ≡ true → KeptUpTo context rows from place seen false values → ReadsTo context.depth context.line value end (IsRejectedIn context slot slot.sieve) → KeptRead context rows from end more true values
+    pub rejected_now : (values : List Value) → slot.is_kept ≡ true → KeptUpTo context rows from place seen false values → ValueStands context.depth context.line value end (IsRejectedIn context slot slot.sieve) → KeptRead context rows from end more true values
     rejected_now values kept =
         behind false true values values (IsRejectedIn context slot slot.sieve)
         (λ filled found json so_far is. (
@@ -334,7 +325,7 @@ module _ (context : ReadContext) (rows : List RowSlot) where
           same_slot k is = fills.seen_stay k (⊎_elim (λ none. absurd (true≢false (sym is ∙ marks.not_set k none))) (λ one. one) (two_bits seen k))
 
   pub kept_brace : (from end next seen : ℕ) (is_left_out : Bool) (old new : List Value) → length rows ≡ length (root_properties context) → FillsAbsent context rows seen old new → KeptRead context rows from end seen is_left_out old → EndsMember context.line end (After.Brace next)
-      → ReadsMembers context.depth (tokens_at Fresh context.line from) (tokens_at AfterValue context.line next)
+      → ReadsMembers context.depth (tokens_at fresh context.line from) (tokens_at after_value context.line next)
       (λ found. MatchBool is_left_out (IsRowRejected context rows found) (FitSlotsBut (root_slots context) (names_unkept_in (root_properties context) rows) (object found) (root_properties context) new))
   kept_brace from end next seen is_left_out old new as_many fills read ends =
       brace_then context.depth context.line from end next (SoFar context rows is_left_out seen read.filled old) (Last is_left_out new)
@@ -342,7 +333,7 @@ module _ (context : ReadContext) (rows : List RowSlot) where
 
   -- a brace where no member stands
   pub kept_empty : (from brace : ℕ) (old new : List Value) → length rows ≡ length (root_properties context) → FillsAbsent context rows 0 old new → length old ≡ length (root_properties context) → PassesSpaces context.line from brace
-      → brace < length context.line → get_or context.line brace 32 ≡ 125 → ReadsMembers context.depth (tokens_at Fresh context.line from) (tokens_at AfterValue context.line (brace + 1))
+      → brace < length context.line → get_or context.line brace 32 ≡ 125 → ReadsMembers context.depth (tokens_at fresh context.line from) (tokens_at after_value context.line (brace + 1))
       (λ found. MatchBool false (IsRowRejected context rows found) (FitSlotsBut (root_slots context) (names_unkept_in (root_properties context) rows) (object found) (root_properties context) new))
   kept_empty from brace old new as_many fills long passed within closes =
       let n = length (root_properties context) in

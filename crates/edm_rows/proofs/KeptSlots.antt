@@ -7,11 +7,11 @@ use Rattle.serde_json.proofs.Views.{get_member-put, get_member-put_other}
 use Rattle.edm_values.specs.Val.{Val}
 use Rattle.edm_values.specs.declared.value.Value.{Value, Null}
 use Rattle.csdl_schema.specs.SchemaModel.{PropertyModel, PropertyType, Slots, HasDistinctNames, declared, navigation, opaque, slots_behind}
-use Rattle.edm_row_plans.specs.PassedNames.{Names}
+use Rattle.edm_rows.specs.RowReading.{Names}
 use Rattle.edm_entities.specs.Fits.{FitsNavigation, FitsProperty}
 use Rattle.edm_entities.specs.Row.{ValAtType, field_of, val_of}
-use Rattle.edm_entities.specs.private.Passed.{FitSlotsBut, FitsSeen, FitsSlotBut, FitsSoFarBut, MayBeAbsent, SlotsSoFarBut, every_name}
-use Rattle.edm_entities.specs.private.SlotsSoFar.{HoldEachSoFar}
+use Rattle.edm_rows.specs.private.Passed.{FitSlotsBut, FitsSeen, FitsSlotBut, FitsSoFarBut, MayBeAbsent, SlotsSoFarBut, every_name}
+use Rattle.edm_rows.specs.private.SlotsSoFar.{HoldEachSoFar}
 use Rattle.edm_entities.specs.private.Walk.{FitsSlot, FitSlots, HoldEach, HoldsInSlot}
 use Rattle.edm_rows.proofs.SlotsHeld.{apart, found_in}
 use Rattle.edm_entities.proofs.SlotLemmas.EachSlot.{null_in_slot}

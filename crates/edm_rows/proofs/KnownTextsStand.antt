@@ -10,14 +10,14 @@ use Rattle.csdl_schema.specs.EnumerationText.{IsOfUnderlying, IsValueIn}
 use Rattle.csdl_schema.specs.SchemaModel.{IsEnumerationByName, SchemaModel, enumeration_at, slots_of}
 use Rattle.edm_enumerations.specs.EnumerationModel.{EnumerationModel}
 use Rattle.edm_values.specs.Val.{member}
-use Rattle.json_tokens.specs.private.Lexemes.{IsTextAt}
+use Rattle.json_room.specs.private.Lexemes.{IsTextAt}
 use Rattle.room_literals.proofs.LiteralTexts.{ArePlain, text_quoted}
 use Rattle.edm_rows.proofs.Values.{member_held}
 use Rattle.edm_rows.specs.declared.known_texts.KnownText.{KnownText}
 use Rattle.edm_rows.specs.private.KnownTexts.{IsKnown, IsTextOf}
-use Rattle.edm_rows.specs.private.Held.{ReadsTo}
+use Rattle.json_room.specs.ValueStands.{ValueStands}
 use Rattle.edm_rows.specs.private.RowSlots.{name_at}
-use Rattle.edm_entities.specs.private.Passed.{FitsSomeHowever}
+use Rattle.edm_rows.specs.private.Passed.{FitsSomeHowever}
 use Rattle.csdl_schema.specs.ExprType.{enumeration, single}
 
 are_plain : (s : List ℕ) → ((k : ℕ) → k < length s → is_plain (get_or s k 0) ≡ true) → ArePlain s
@@ -26,7 +26,7 @@ are_plain (x ∷ s) each = (each 0 (omega arith), are_plain s (λ k inside. each
 
 pub known_stands : (schema : SchemaModel) (known : KnownText) (line b : List ℕ) (place : ℕ) (front : take (length line) b ≡ line) (feed : get_or b (length line) 0 ≡ 10) (room : length line + 64 ≤ length b)
     → place ≤ length line → get_or b place 0 ≡ 34 → known.length < 16 → IsKnown schema known → ((k : ℕ) → k < 16 → get_or known.mask k 0 ≡ 255 → get_or (chunk (place + 1) 16 b) k 0 ≡ get_or known.front k 0)
-    → (depth : ℕ) → ReadsTo depth line place (place + known.length + 2) (FitsSomeHowever (slots_of schema) (single (enumeration (name_at schema known.id))))
+    → (depth : ℕ) → ValueStands depth line place (place + known.length + 2) (FitsSomeHowever (slots_of schema) (single (enumeration (name_at schema known.id))))
 known_stands schema known line b place front feed room begins opens few is same depth =
     let n = known.length in
     let f = known.front in

@@ -1,8 +1,8 @@
 -- Values without parts that are put into a row's slots, or are rejected.
-use Rattle.std.proofs.Common.{◌≡◌, ℕ, ℤ, pos, ◌<◌, List, Bool, Option, Some, None, refl, sym, ap, ◌∙◌, subst, rules}
+use Rattle.std.proofs.Common.{◌≡◌, ℕ, ℤ, ◌<◌, List, Bool, Some, refl, sym, ap, ◌∙◌, subst, rules}
 use Rattle.std.specs.Str.{IsUtf8}
 use Rattle.json.specs.Token.{Token}
-use Rattle.serde_json.specs.Data.{Data, Num, unsigned, boolean, number, string}
+use Rattle.serde_json.specs.Data.{Num, boolean, number, string}
 use Rattle.serde_json.specs.Find.{as_integer}
 use Rattle.serde_json.specs.Read.{number_of}
 use Rattle.csdl_schema.specs.EnumerationText.{IsOfUnderlying, IsValueIn}
@@ -18,20 +18,28 @@ use Rattle.edm_values.specs.declared.sieve.Sieve.{Sieve}
 use Rattle.edm_values.specs.declared.value.Value.{Value, Bool as BoolValue, Enum, Int, the_lemmas}
 use Rattle.edm_entities.specs.FitsPrimitive.{FitsPrimitive, IsTextValue}
 use Rattle.edm_entities.specs.Row.{val_of}
-use Rattle.edm_entities.specs.private.Passed.{FitsSomeHowever}
-use Rattle.edm_entities.specs.private.RowTokens.{FitsHoweverNullable}
-use Rattle.edm_entities.proofs.FitLemmas.Numbers.{none_some, val_of-Bool, val_of-Enum}
-use Rattle.edm_entities.proofs.RowLemmas.Leaves.{boolean_token, number_token, string_token}
-use Rattle.json_tokens.specs.private.Lexemes.{IsTextAt}
+use Rattle.edm_rows.specs.private.Passed.{FitsSomeHowever, FitsHoweverNullable}
+use Rattle.edm_entities.proofs.FitLemmas.Numbers.{none_some, val_of-Enum, val_of-Text}
+use Rattle.spare_values.specs.StoredTexts.{HoldsText}
+use Rattle.json_room.proofs.Tokens.{boolean_token, number_token, string_token}
+use Rattle.json_room.specs.private.Lexemes.{IsTextAt}
 use Rattle.json_room.specs.Lexemes.{StandsTo}
 use Rattle.json_room.proofs.Standing.{string_stands}
-use Rattle.edm_rows.specs.private.Held.{ReadsTo}
+use Rattle.json_room.specs.ValueStands.{ValueStands}
 use Rattle.edm_rows.specs.private.KeptLeaves.{IsLeafRejected, PutsLeaf, PutsMember}
-use Rattle.edm_rows.proofs.Places.{reads_to_as, token_to}
+use Rattle.json_room.proofs.Places.{reads_to_as, token_to}
 use Rattle.edm_rows.proofs.Values.{number_fits, text_fits}
 
 pub val_of-Int : (slots : Slots) (type : ExprType) (n : ℤ) → val_of (Int n) slots.properties type ≡ whole n
 val_of-Int slots type n = search (rules, the_lemmas)
+
+val_of-Bool : (slots : Slots) (type : ExprType) (b : Bool) → val_of (BoolValue b) slots.properties type ≡ val.boolean b
+val_of-Bool slots type b = search (rules, the_lemmas)
+
+-- a text is the value of its bytes
+pub text_is : (v : Value) (s : List ℕ) → HoldsText v s → IsUtf8 s → (slots : Slots) (type : ExprType) → IsTextValue prim.String s (val_of v slots.properties type)
+text_is v s holds utf8 slots type =
+    (utf8, ap (λ (w : Value). val_of w slots.properties type) holds.1 ∙ val_of-Text slots type holds.0 ∙ ap text holds.2)
 
 -- ---- what was written fits some JSON
 
@@ -83,13 +91,13 @@ member_puts slots name s line from to n further stands value within =
 
 -- ---- what is put fits
 
-however : (slots : Slots) (depth : ℕ) (line : List ℕ) (type : SingleType) (v : Value) (from to : ℕ) → ReadsTo depth line from to (FitsHoweverNullable slots (single type) v) → ReadsTo depth line from to (FitsSomeHowever slots (single type))
+however : (slots : Slots) (depth : ℕ) (line : List ℕ) (type : SingleType) (v : Value) (from to : ℕ) → ValueStands depth line from to (FitsHoweverNullable slots (single type) v) → ValueStands depth line from to (FitsSomeHowever slots (single type))
 however slots depth line type v from to = reads_to_as depth line from to (FitsHoweverNullable slots (single type) v) (FitsSomeHowever slots (single type)) (λ json fits nullable. (val_of v slots.properties (single type), fits nullable))
 
-pub leaf_fits : (slots : Slots) (depth : ℕ) (line : List ℕ) (type : SingleType) (v : Value) (from to : ℕ) → PutsLeaf line type v from to → ReadsTo depth line from to (FitsSomeHowever slots (single type))
+pub leaf_fits : (slots : Slots) (depth : ℕ) (line : List ℕ) (type : SingleType) (v : Value) (from to : ℕ) → PutsLeaf line type v from to → ValueStands depth line from to (FitsSomeHowever slots (single type))
 leaf_fits slots depth line type v from to puts = however slots depth line type v from to (puts.1 slots depth)
 
-pub member_fits : (slots : Slots) (name : List ℕ) (depth : ℕ) (line : List ℕ) (v : Value) (from to : ℕ) → PutsMember line slots name v from to → ReadsTo depth line from to (FitsSomeHowever slots (single (enumeration name)))
+pub member_fits : (slots : Slots) (name : List ℕ) (depth : ℕ) (line : List ℕ) (v : Value) (from to : ℕ) → PutsMember line slots name v from to → ValueStands depth line from to (FitsSomeHowever slots (single (enumeration name)))
 member_fits slots name depth line v from to puts = however slots depth line (enumeration name) v from to (puts.1 depth)
 
 -- ---- JSON of a primitive type has one value
@@ -113,7 +121,7 @@ number_unique prim.Guid m n v is fits = absurd (none_some fits.1)
 
 module _ (line : List ℕ) (from to : ℕ) (sieve : Sieve) (slots : Slots) (depth : ℕ) where
   pub number_rejected : (type : PrimitiveType) (s : List ℕ) (m : Num) (n : ℤ) → StandsTo line from (Token.number s) to → number_of s ≡ Some m → as_integer m ≡ Some n → IsNumberOf type n → Rejects sieve (whole n)
-      → ReadsTo depth line from to (IsLeafRejected slots (primitive type) sieve)
+      → ValueStands depth line from to (IsLeafRejected slots (primitive type) sieve)
   number_rejected type s m n stands read is of rejects =
       token_to depth line from to (Token.number s) (IsLeafRejected slots (primitive type) sieve) stands
       (record {
@@ -123,7 +131,7 @@ module _ (line : List ℕ) (from to : ℕ) (sieve : Sieve) (slots : Slots) (dept
         holds = (λ nullable. (whole n, number_fits type m n is of), λ nullable v fits. subst (Rejects sieve) (sym (number_unique type m n v is fits)) rejects);
       })
 
-  pub truth_rejected : (b : Bool) → StandsTo line from (Token.boolean b) to → Rejects sieve (val.boolean b) → ReadsTo depth line from to (IsLeafRejected slots (primitive prim.Bool) sieve)
+  pub truth_rejected : (b : Bool) → StandsTo line from (Token.boolean b) to → Rejects sieve (val.boolean b) → ValueStands depth line from to (IsLeafRejected slots (primitive prim.Bool) sieve)
   truth_rejected b stands rejects =
       token_to depth line from to (Token.boolean b) (IsLeafRejected slots (primitive prim.Bool) sieve) stands
       (record {
@@ -133,7 +141,7 @@ module _ (line : List ℕ) (from to : ℕ) (sieve : Sieve) (slots : Slots) (dept
         holds = (λ nullable. (val.boolean b, (b, refl, refl)), λ nullable v fits. subst (Rejects sieve) (sym (fits.2 ∙ ap val.boolean (same_some fits.0 b (sym fits.1)))) rejects);
       })
 
-  pub text_rejected : (s : List ℕ) → from < to → IsTextAt line from s to → IsUtf8 s → Rejects sieve (text s) → ReadsTo depth line from to (IsLeafRejected slots (primitive prim.String) sieve)
+  pub text_rejected : (s : List ℕ) → from < to → IsTextAt line from s to → IsUtf8 s → Rejects sieve (text s) → ValueStands depth line from to (IsLeafRejected slots (primitive prim.String) sieve)
   text_rejected s further stands utf8 rejects =
       token_to depth line from to (Token.string s) (IsLeafRejected slots (primitive prim.String) sieve) (string_stands line from to s further stands.within stands.lexed)
       (record {

@@ -7,16 +7,16 @@ mod KeptSlots
 mod KnownTextsStand
 mod LeavesKept
 mod NextMembers
-pub mod Places
 mod RootEnds
 mod RowSteps
-mod RowTypes
-pub mod RowsRead
+mod RowLemmas
+mod RowsFilled
+mod RowsRead
 mod RowsStay
 mod ContextLemmas
+mod SeenBits
 mod SeenMembers
 mod SlotMarks
-mod SlotsFilled
 mod SlotsHeld
 mod TypesChanged
 mod UnseenNull

@@ -1,30 +1,31 @@
 -- The next member of an object: its name, and the slot that has it.
-use Rattle.std.proofs.Common.{◌≡◌, inl, inr, ℕ, zero, suc, ◌<◌, ◌≤◌, List, [], ◌∷◌, length, map, Option, Some, IfSome, slice_get, refl, sym, ap, ◌∙◌, subst, arith}
+use Rattle.std.proofs.Common.{◌≡◌, inl, inr, ℕ, zero, suc, ◌+◌, ◌<◌, ◌≤◌, List, [], ◌∷◌, length, map, Option, Some, IfSome, slice_get, refl, sym, ap, ◌∙◌, subst, arith, get_or}
 use Rattle.csdl_schema.specs.ExpansionView.{StepModel}
-use Rattle.csdl_schema.specs.SchemaModel.{SchemaModel, PropertyModel, properties_at}
-use Rattle.json_tokens.specs.private.Lexemes.{BeginsKey, PassesSpaces}
+use Rattle.csdl_schema.specs.SchemaModel.{SchemaModel, PropertyModel, properties_at, slots_behind}
+use Rattle.json_room.specs.private.Lexemes.{BeginsKey, PassesSpaces}
 use Rattle.serde_json.specs.Data.{Data}
 use Rattle.csdl_schema.specs.PropertyView.{property_type}
-use Rattle.csdl_schema.specs.SchemaModel.{slots_behind}
 use Rattle.edm_row_plans.specs.Expanded.{slots_at}
 use Rattle.edm_row_plans.specs.Plans.{IsSlotPlan}
 use Rattle.edm_row_plans.specs.declared.type_plan.SlotPlan.{SlotPlan}
 use Rattle.edm_row_plans.specs.declared.type_plan.TypePlan.{TypePlan}
-use Rattle.edm_entities.specs.private.Passed.{FitsSeen, FitsSomeProperty}
-use Rattle.edm_entities.proofs.RowLemmas.Passes.{slot_seen}
+use Rattle.edm_rows.specs.private.Passed.{FitsSeen, FitsSomeProperty}
+use Rattle.edm_rows.proofs.RowLemmas.Passes.{slot_seen}
 use Rattle.edm_rows.proofs.Indexes.{each_at}
-use Rattle.edm_entities.proofs.RowLemmas.Plans.{slot_planned}
+use Rattle.edm_rows.proofs.RowLemmas.Plans.{slot_planned}
 use Rattle.edm_rows.specs.declared.row_types.RowSlot.{RowSlot}
 use Rattle.edm_rows.specs.declared.row_types.RowType.{RowType}
-use Rattle.edm_rows.specs.private.Held.{ReadsTo}
-use Rattle.edm_rows.specs.private.Members.{FindsName, NamesSlot, NextMember, PassesOther}
+use Rattle.json_room.specs.ValueStands.{ValueStands}
+use Rattle.edm_rows.specs.private.Members.{EndsMember, FindsName, NamesSlot, NextMember, PassesOther}
 use Rattle.edm_rows.specs.private.RowSlots.{IsRowSlot, IsRowType}
-use Rattle.edm_rows.proofs.Places.{names_behind, names_to, reads_behind}
+use Rattle.edm_rows.specs.declared.members.After.{After}
+use Rattle.json_room.proofs.Places.{close_ends, comma_ends, object_ends, names_behind, names_to, reads_behind}
 use Rattle.edm_rows.proofs.Values.{some_by}
+use Rattle.json.specs.Lex.{after_value}
 
 -- ---- lists by their indexes
 
-some_there : {X : Type 0} (xs : List X) (k : ℕ) → k < length xs → (x : X) × (slice_get xs k ≡ Some x)
+pub some_there : {X : Type 0} (xs : List X) (k : ℕ) → k < length xs → (x : X) × (slice_get xs k ≡ Some x)
 some_there [] k within = absurd (omega (arith, within))
 some_there (x ∷ xs) zero within = (x, refl)
 some_there (x ∷ xs) (suc k) within = some_there xs k (omega (arith, within))
@@ -59,8 +60,7 @@ slot_there schema steps plans plan type index slot is at =
 pub slot_named : (schema : SchemaModel) (steps : List StepModel) (plans : List TypePlan) (plan : TypePlan) (type : RowType) (index : ℕ) (slot : RowSlot) → IsRowType schema steps plans plan type
     → slice_get type.slots.items index ≡ Some slot → slice_get (map (λ p. p.name) (properties_at schema type.type_id)) index ≡ Some slot.key
 slot_named schema steps plans plan type index slot is at =
-    let there = slot_there schema steps plans plan type index slot is at in
-    subst (λ id. slice_get (map (λ q. q.name) (properties_at schema id)) index ≡ Some slot.key) (sym is.of_type.0) (there.planned.named.0 ∙ ap Some (sym there.row.named))
+    each_at (λ k (s : RowSlot). slice_get (map (λ q. q.name) (properties_at schema type.type_id)) k ≡ Some s.key) type.slots.items index slot is.named at
 
 -- what fits the property of a slot's plan fits that of its type
 pub property_fits : (schema : SchemaModel) (steps : List StepModel) (plan : TypePlan) (type : RowType) (index : ℕ) (p : SlotPlan) (plans : List TypePlan) → IsRowType schema steps plans plan type
@@ -87,7 +87,7 @@ name_next depth line ps slot from place value passed within (name, named, inl (i
 name_next depth line ps slot from place value passed within (name, named, inr (past, others)) = absurd (omega (arith, past, within))
 
 pub other_next : (depth : ℕ) (line : List ℕ) (ps : List PropertyModel) (slot from place value begin to : ℕ) → PassesSpaces line from place → length ps ≤ slot → FindsName line ps slot place value → PassesSpaces line value begin
-    → ReadsTo depth line begin to (λ json. Unit {0}) → NextMember depth line ps slot from to
+    → ValueStands depth line begin to (λ json. Unit {0}) → NextMember depth line ps slot from to
 other_next depth line ps slot from place value begin to passed past (name, named, inl (within, at)) spaces reads = absurd (omega (arith, past, within))
 other_next depth line ps slot from place value begin to passed past (name, named, inr (_, others)) spaces reads =
     inr (past, (name, value, names_behind line from place name value passed named, others, reads_behind depth line value begin to (λ json. Unit {0}) spaces reads))
@@ -104,3 +104,13 @@ other_of_next depth line ps slot from to past (inr next) = next.1
 -- as many slots as properties
 pub as_many : (schema : SchemaModel) (steps : List StepModel) (plans : List TypePlan) (plan : TypePlan) (type : RowType) → IsRowType schema steps plans plan type → length type.slots.items ≡ length (properties_at schema type.type_id)
 as_many schema steps plans plan type is = is.count ∙ is.is_plan.planned.count ∙ ap (λ id. length (properties_at schema id)) (sym is.of_type.0)
+
+-- what comes after a member
+pub comma_member : (line : List ℕ) (end place : ℕ) → PassesSpaces line end place → place < length line → get_or line place 32 ≡ 44 → EndsMember line end (After.Comma (place + 1))
+comma_member line end place passed within is =
+    let ended = comma_ends line end place passed within is in
+    (omega (arith, passed.bounds.0), omega (arith, within), ended.0, ended.1)
+
+pub brace_member : (line : List ℕ) (end place : ℕ) → PassesSpaces line end place → place < length line → get_or line place 32 ≡ 125 → EndsMember line end (After.Brace (place + 1))
+brace_member line end place passed within is =
+    (omega (arith, passed.bounds.0), omega (arith, within), close_ends line end place 125 passed within is (inl refl), object_ends after_value line end place refl passed within is)

@@ -4,15 +4,14 @@ use Rattle.std.specs.Int.{bit_at}
 use Rattle.csdl_schema.specs.SchemaModel.{HasDistinctNames, properties_at}
 use Rattle.edm_values.specs.declared.value.Value.{Value}
 use Rattle.edm_row_plans.specs.Expanded.{slots_at}
-use Rattle.edm_entities.specs.private.Passed.{MayBeAbsent}
+use Rattle.edm_rows.specs.private.Passed.{MayBeAbsent}
 use Rattle.edm_rows.specs.declared.passed_value.ReadContext.{ReadContext}
 use Rattle.edm_rows.specs.declared.row_types.RowSlot.{RowSlot}
 use Rattle.edm_rows.specs.declared.row_types.RowType.{RowType}
 use Rattle.edm_rows.specs.private.Filled.{FillsSlots}
 use Rattle.edm_rows.specs.private.KeptRows.{IsRootType, RowConforms, root_properties, root_slots}
 use Rattle.edm_rows.specs.private.KeptSoFar.{FillsAbsent}
-use Rattle.edm_rows.specs.private.RowSlots.{IsRowSlot}
-use Rattle.edm_rows.proofs.Indexes.{both_at}
+use Rattle.seen_slots.specs.SlotBits.{bits_of}
 
 -- a row's own type has one slot for each property
 pub rows_long : (context : ReadContext) (type : RowType) → IsRootType context type → length type.slots.items ≡ length (root_properties context)
@@ -27,7 +26,7 @@ mapped_within (r ∷ rows) (suc k) b at = omega (arith, mapped_within rows k b a
 module _ (context : ReadContext) (type : RowType) (root : IsRootType context type) (seen : ℕ) (old new : List Value) (fills : FillsSlots type seen old new) where
   may_be_absent : (k : ℕ) → k < length (root_properties context) → bit_at seen k ≡ 0 → IfSome (slice_get (root_properties context) k) (MayBeAbsent (root_slots context))
   may_be_absent k inside none =
-      let set : bit_at type.optional k ≡ 1 = ⊎_elim (λ was. absurd (omega (arith, none, was))) (λ optional. optional) (fills.may k (omega (arith, inside, rows_long context type root))) in
+      let set : bit_at (bits_of type.optional.words) k ≡ 1 = ⊎_elim (λ was. absurd (omega (arith, none, was))) (λ optional. optional) (fills.may k (omega (arith, inside, rows_long context type root))) in
       subst (λ (i : ℕ). IfSome (slice_get (properties_at context.schema.now i) k) (MayBeAbsent (root_slots context))) root.type_id
       (subst (λ (node : Option ℕ). IfSome (slice_get (properties_at context.schema.now type.type_id) k) (MayBeAbsent (slots_at context.schema.now context.plan.now.expansion node))) root.node (root.is.optional k set))
 
@@ -50,8 +49,3 @@ pub ends_conform : (context : ReadContext) (type : RowType) → IsRootType conte
     → RowConforms (root_slots context) (root_properties context) old → RowConforms (root_slots context) (root_properties context) new
 ends_conform context type root seen true old new long fills stays conforms = conforms_on context type root seen old new (fills refl) long conforms
 ends_conform context type root seen false old new long fills stays conforms = subst (RowConforms (root_slots context) (root_properties context)) (sym (stays refl)) conforms
-
--- each slot's bit is that of its index
-pub root_bits : (context : ReadContext) (type : RowType) → IsRootType context type → (k : ℕ) → IfSome (slice_get type.slots.items k) (λ slot. slot.bit ≡ 2 ^ k)
-root_bits context type root k =
-    both_at type.slots.items root.plan.slots.items (λ slot p. IsRowSlot context.schema.now context.plan.now.expansion context.plan.now.plans.items k p slot) (λ slot. slot.bit ≡ 2 ^ k) k root.is.count (root.is.each k) (λ slot p is. is.bit)

@@ -1,36 +1,38 @@
 -- One member more of a row, by what its slot is.
-use Rattle.std.proofs.Common.{◌≡◌, ◌≢◌, ◌⊎◌, ◌+◌, ◌^◌, ◌<◌, ◌≤◌, ℕ, zero, suc, List, [], ◌∷◌, inl, inr, length, get_or, map, Bool, true, false, Option, None, Some, IfSome, Result, Ok, Err, IfOk, Bor, slice_get, slice_set, bit_and, bit_or, refl, sym, ap, ◌∙◌, subst, arith}
+use Rattle.std.proofs.Common.{◌≡◌, ◌≢◌, ◌⊎◌, ◌+◌, ◌*◌, ◌^◌, ◌<◌, ◌≤◌, ℕ, zero, suc, List, [], ◌∷◌, inl, inr, length, get_or, map, Bool, true, false, Option, None, Some, IfSome, Result, Ok, Err, IfOk, Bor, slice_get, slice_set, bit_or, refl, sym, ap, ◌∙◌, subst, arith}
 use Rattle.std.proofs.lemmas.Bool.{true≢false}
 use Rattle.std.specs.Int.{bit_at}
 use Rattle.std.specs.Prelude.{option_map}
 use Rattle.serde_json.specs.Data.{Data}
 use Rattle.csdl_schema.specs.SchemaModel.{HasDistinctNames, PropertyModel, SchemaModel, properties_at, slots_behind}
-use Rattle.json_tokens.specs.private.Lexemes.{PassesSpaces}
+use Rattle.json_room.specs.private.Lexemes.{PassesSpaces}
 use Rattle.edm_values.specs.declared.value.Value.{Value}
 use Rattle.edm_row_plans.specs.Plans.{IsPlanOf, IsSlotPlan}
 use Rattle.edm_row_plans.specs.declared.row_plan.RowPlan.{RowPlan}
 use Rattle.edm_row_plans.specs.declared.type_plan.TypePlan.{TypePlan}
 use Rattle.edm_entities.specs.Row.{val_of}
-use Rattle.edm_entities.specs.private.Passed.{FitsSomeProperty}
+use Rattle.edm_rows.specs.private.Passed.{FitsSomeProperty}
 use Rattle.edm_rows.specs.declared.kept_leaf.Taken.{Taken}
-use Rattle.edm_rows.specs.declared.kept_value.Progress.{Progress}
 use Rattle.edm_rows.specs.declared.members.After.{After}
 use Rattle.edm_rows.specs.declared.members.Found.{Found}
 use Rattle.edm_rows.specs.declared.passed_value.ReadContext.{ReadContext}
 use Rattle.edm_rows.specs.declared.row_types.RowSlot.{RowSlot}
 use Rattle.edm_rows.specs.declared.row_types.RowType.{RowType}
-use Rattle.edm_rows.specs.private.Held.{IsHeldTo, ReadsTo}
+use Rattle.json_room.specs.ValueStands.{ValueStands}
+use Rattle.json_room.specs.private.ValuesStand.{NamesTo}
+use Rattle.edm_rows.specs.private.Held.{IsHeldTo}
 use Rattle.edm_rows.specs.private.HeldRows.{AreTypesOf, HasFirstType}
 use Rattle.edm_rows.specs.private.KeptRows.{FitsSlotAs, GoesOn, IsRejectedIn, IsRootSlot, IsRootType, ReadsRow, RowConforms, TakesValue, root_properties, root_slots}
-use Rattle.edm_rows.specs.private.Members.{EndsMember, NamesSlot, NamesTo, PassesOther}
+use Rattle.edm_rows.specs.private.Members.{EndsMember, NamesSlot, PassesOther}
 use Rattle.edm_rows.specs.private.RowSlots.{AreRowTypes, IsRowSlot, IsRowType, kinds_of}
 use Rattle.edm_rows.specs.private.Contexts.{FindsMember, FindsSlot, IsContext, PassesValue, slots_behind_node}
-use Rattle.edm_rows.specs.private.KeptSoFar.{FillsAbsent, IsReadTo, KeptRead, KeptUpTo}
-use Rattle.edm_rows.proofs.KeptMembers.{bit_none, kept_brace, kept_empty, other_taken, passed_left_out, passed_unkept, rejected_now, taken}
+use Rattle.edm_rows.specs.private.KeptSoFar.{FillsAbsent, KeptRead, KeptUpTo}
+use Rattle.edm_rows.specs.private.SeenSlots.{HasMark}
+use Rattle.edm_rows.proofs.KeptMembers.{kept_brace, kept_empty, other_taken, passed_left_out, passed_unkept, rejected_now, taken}
 use Rattle.edm_rows.proofs.RootEnds.{rows_long}
 use Rattle.edm_rows.proofs.KeptSlots.{conforms_set, slot_stays}
+use Rattle.json_room.proofs.Places.{reads_to_as}
 use Rattle.edm_rows.proofs.NextMembers.{at_within, slot_there}
-use Rattle.edm_rows.proofs.Places.{reads_to_as}
 use Rattle.edm_rows.proofs.ValuesKept.{in_slot}
 
 -- a slot of the row's own type
@@ -98,7 +100,7 @@ pub record FoundSlot (context : ReadContext) (rows : List RowSlot) (place value 
   pub names : NamesTo context.line place name value
   pub named : slice_get (map (λ p. p.name) (root_properties context)) slot.index ≡ Some name
   pub within : slot.index < length (root_properties context)
-  pub bit : slot.bit ≡ 2 ^ slot.index
+  pub mark : (words : ℕ) → length rows ≤ words → HasMark words slot
 
 pub found_slot : (context : ReadContext) (type : RowType) (index place value : ℕ) (slot : RowSlot) → IsRootType context type → slice_get type.slots.items index ≡ Some slot → NamesSlot context.line (properties_at context.schema.now type.type_id) place index value
     → FoundSlot context type.slots.items place value slot
@@ -114,7 +116,10 @@ found_slot context type index place value slot root at (name, names, named) =
       names = names;
       named = here;
       within = named_within (root_properties context) slot.index name here;
-      bit = is.is.bit;
+      mark = λ words room. record {
+        within = omega (arith, room, subst (λ (k : ℕ). k < length type.slots.items) same (at_within type.slots.items index slot at));
+        bit = is.is.bit;
+      };
     }
   where
     named_within : (ps : List PropertyModel) (n : ℕ) (s : List ℕ) → slice_get (map (λ p. p.name) ps) n ≡ Some s → n < length ps
@@ -123,32 +128,28 @@ found_slot context type index place value slot root at (name, names, named) =
     named_within (p ∷ ps) (suc n) s e = omega (arith, named_within ps n s e)
 
 module _ (context : ReadContext) (rows : List RowSlot) (from place value end seen : ℕ) (slot : RowSlot) (found : FoundSlot context rows place value slot) where
-  more : (is_left_out : Bool) (values : List Value) → KeptRead context rows from end (bit_or seen (2 ^ slot.index)) is_left_out values → KeptRead context rows from end (bit_or seen slot.bit) is_left_out values
-  more is_left_out values read = subst (λ (b : ℕ). KeptRead context rows from end (bit_or seen b) is_left_out values) (sym found.bit) read
-
   -- what the task holds to fits the property
   passes : (depth : ℕ) → PassesValue context slot slot.task depth value end
-      → ReadsTo depth context.line value end (λ json. IfSome (slice_get (root_properties context) slot.index) (λ p. FitsSomeProperty (slots_behind (root_slots context) p.name) p.nullable p.type_of (Some json)))
+      → ValueStands depth context.line value end (λ json. IfSome (slice_get (root_properties context) slot.index) (λ p. FitsSomeProperty (slots_behind (root_slots context) p.name) p.nullable p.type_of (Some json)))
   passes depth passed =
       reads_to_as depth context.line value end (IsHeldTo (slots_behind_node context slot.node) (kinds_of context.schema.now context.plan.now.plans.items slot) slot.is_nullable slot.item slot.task)
       (λ json. IfSome (slice_get (root_properties context) slot.index) (λ p. FitsSomeProperty (slots_behind (root_slots context) p.name) p.nullable p.type_of (Some json)))
       (λ json held. in_slot context slot found.root (λ slots nullable type. FitsSomeProperty slots nullable type (Some json)) (found.root.is.fits json held)) passed
 
-  pub put_read : (values : List Value) (v : Value) → KeptUpTo context rows from place seen false values → ReadsTo context.depth context.line value end (FitsSlotAs context slot (val_of v)) → KeptRead context rows from end (bit_or seen slot.bit) false (slice_set values slot.index v)
-  put_read values v so_far reads = more false (slice_set values slot.index v) (taken context rows found.distinct from place value end seen slot found.name found.is_slot found.named found.names found.within values v so_far reads)
+  pub put_read : (values : List Value) (v : Value) → KeptUpTo context rows from place seen false values → ValueStands context.depth context.line value end (FitsSlotAs context slot (val_of v)) → KeptRead context rows from end (bit_or seen (2 ^ slot.index)) false (slice_set values slot.index v)
+  put_read values v so_far reads = taken context rows found.distinct from place value end seen slot found.name found.is_slot found.named found.names found.within values v so_far reads
 
-  pub rejected_read : (values : List Value) → slot.is_kept ≡ true → KeptUpTo context rows from place seen false values → ReadsTo context.depth context.line value end (IsRejectedIn context slot slot.sieve) → KeptRead context rows from end (bit_or seen slot.bit) true values
-  rejected_read values kept so_far reads = more true values (rejected_now context rows found.distinct from place value end seen slot found.name found.is_slot found.named found.names found.within values kept so_far reads)
+  pub rejected_read : (values : List Value) → slot.is_kept ≡ true → KeptUpTo context rows from place seen false values → ValueStands context.depth context.line value end (IsRejectedIn context slot slot.sieve) → KeptRead context rows from end (bit_or seen (2 ^ slot.index)) true values
+  rejected_read values kept so_far reads = rejected_now context rows found.distinct from place value end seen slot found.name found.is_slot found.named found.names found.within values kept so_far reads
 
   pub unkept_read : (values : List Value) → slot.is_kept ≡ false → length values ≡ length (root_properties context) → KeptUpTo context rows from place seen false values → PassesValue context slot slot.task context.depth value end
-      → KeptRead context rows from end (bit_or seen slot.bit) false values
+      → KeptRead context rows from end (bit_or seen (2 ^ slot.index)) false values
   unkept_read values unkept long so_far passed =
-      more false values (passed_unkept context rows found.distinct from place value end seen slot found.name found.is_slot found.named found.names found.within values unkept long so_far (passes context.depth passed))
+      passed_unkept context rows found.distinct from place value end seen slot found.name found.is_slot found.named found.names found.within values unkept long so_far (passes context.depth passed)
 
-  pub left_out_read : (values : List Value) → (slot.is_kept ≡ true → bit_and seen slot.bit ≡ 0) → KeptUpTo context rows from place seen true values → PassesValue context slot slot.task context.depth value end → KeptRead context rows from end (bit_or seen slot.bit) true values
+  pub left_out_read : (values : List Value) → (slot.is_kept ≡ true → bit_at seen slot.index ≡ 0) → KeptUpTo context rows from place seen true values → PassesValue context slot slot.task context.depth value end → KeptRead context rows from end (bit_or seen (2 ^ slot.index)) true values
   left_out_read values fresh so_far passed =
-      more true values (passed_left_out context rows found.distinct from place value end seen slot found.name found.is_slot found.named found.names found.within values
-      (λ kept. bit_none seen slot.index (subst (λ (b : ℕ). bit_and seen b ≡ 0) found.bit (fresh kept))) so_far (passes context.depth passed))
+      passed_left_out context rows found.distinct from place value end seen slot found.name found.is_slot found.named found.names found.within values fresh so_far (passes context.depth passed)
 
   -- the values go on to conform
   pub conforms_on : (values : List Value) (old v : Value) → slice_get values slot.index ≡ Some old → GoesOn context slot old v → RowConforms (root_slots context) (root_properties context) values
@@ -185,36 +186,27 @@ none_bounds context type place found is finds = go (subst (λ (o : Option (Bor R
     go (name, value, names, others, reads) = (omega (arith, names.bounds.0, reads.bounds.0), reads.bounds.1)
 
 -- where a value ends that was passed
-pub further_on : (context : ReadContext) (slot : RowSlot) (r : Option Progress) (place value : ℕ) → place < value → IfSome r (λ read. PassesValue context slot slot.task context.depth value read.place) → IfSome r (λ read. read.order < 256)
-    → IfSome r (λ read. (place < read.place) × (read.place ≤ length context.line) × (read.order < 256))
-further_on context slot None place value less passed order = tt
-further_on context slot (Some read) place value less passed order = (omega (arith, less, passed.bounds.0), passed.bounds.1, order)
+pub further_on : (context : ReadContext) (slot : RowSlot) (place value end order : ℕ) → place < value → PassesValue context slot slot.task context.depth value end → order < 1024 → (place < end) × (end ≤ length context.line) × (order < 1024)
+further_on context slot place value end order less passed of_order = (omega (arith, less, passed.bounds.0), passed.bounds.1, of_order)
 
 module _ (context : ReadContext) (type : RowType) (from place value seen : ℕ) (slot : RowSlot) (found : FoundSlot context type.slots.items place value slot) (values : List Value) (long : length values ≡ length (root_properties context)) where
-  passed_by : (b : Bool) (end : ℕ) → (slot.is_kept ≡ false) ⊎ ((b ≡ true) × (bit_and seen slot.bit ≡ 0)) → KeptUpTo context type.slots.items from place seen b values → PassesValue context slot slot.task context.depth value end
-      → KeptRead context type.slots.items from end (bit_or seen slot.bit) b values
+  passed_by : (b : Bool) (end : ℕ) → (slot.is_kept ≡ false) ⊎ ((b ≡ true) × (bit_at seen slot.index ≡ 0)) → KeptUpTo context type.slots.items from place seen b values → PassesValue context slot slot.task context.depth value end
+      → KeptRead context type.slots.items from end (bit_or seen (2 ^ slot.index)) b values
   passed_by true end (inl unkept) so_far passed = left_out_read context type.slots.items from place value end seen slot found values (λ kept. absurd (true≢false (sym kept ∙ unkept))) so_far passed
   passed_by true end (inr both) so_far passed = left_out_read context type.slots.items from place value end seen slot found values (λ _. both.1) so_far passed
   passed_by false end (inl unkept) so_far passed = unkept_read context type.slots.items from place value end seen slot found values unkept long so_far passed
   passed_by false end (inr both) so_far passed = absurd (true≢false (sym both.0))
 
-  -- a value that was passed
-  pub passed_at : (b : Bool) (read : Progress) → (slot.is_kept ≡ false) ⊎ ((b ≡ true) × (bit_and seen slot.bit ≡ 0)) → KeptUpTo context type.slots.items from place seen b values
-      → PassesValue context slot slot.task context.depth value read.place → read.seen ≡ bit_or seen slot.bit → IsReadTo context type b from values read
-  passed_at b read why so_far passed more = subst (λ (k : ℕ). KeptRead context type.slots.items from read.place k b values) (sym more) (passed_by b read.place why so_far passed)
-
-  -- after one that was rejected: that of a kept slot comes once
-  pub passed_later : (r : Option Progress) → (slot.is_kept ≡ true → bit_and seen slot.bit ≡ 0) → KeptUpTo context type.slots.items from place seen true values
-      → IfSome r (λ read. PassesValue context slot slot.task context.depth value read.place) → IfSome r (λ read. read.seen ≡ bit_or seen slot.bit) → IfSome r (IsReadTo context type true from values)
-  passed_later None fresh so_far passed more = tt
-  passed_later (Some read) fresh so_far passed more =
-      subst (λ (k : ℕ). KeptRead context type.slots.items from read.place k true values) (sym more) (left_out_read context type.slots.items from place value read.place seen slot found values fresh so_far passed)
+  -- a value that was passed, and its slot is marked
+  pub passed_at : (b : Bool) (end more : ℕ) → (slot.is_kept ≡ false) ⊎ ((b ≡ true) × (bit_at seen slot.index ≡ 0)) → KeptUpTo context type.slots.items from place seen b values
+      → PassesValue context slot slot.task context.depth value end → more ≡ bit_or seen (2 ^ slot.index) → KeptRead context type.slots.items from end more b values
+  passed_at b end more why so_far passed is = subst (λ (k : ℕ). KeptRead context type.slots.items from end k b values) (sym is) (passed_by b end why so_far passed)
 
   -- a value that was rejected leaves the row as it was
   pub rejected_on : (old v : Value) (end : ℕ) → slice_get values slot.index ≡ Some old → slot.is_kept ≡ true → KeptUpTo context type.slots.items from place seen false values → TakesValue context slot context.depth old v value (Taken.Rejected end)
-      → KeptRead context type.slots.items from end (bit_or seen slot.bit) true (slice_set values slot.index v)
+      → KeptRead context type.slots.items from end (bit_or seen (2 ^ slot.index)) true (slice_set values slot.index v)
   rejected_on old v end there kept so_far takes =
-      subst (λ (vs : List Value). KeptRead context type.slots.items from end (bit_or seen slot.bit) true vs) (sym (slot_stays values slot.index v (there ∙ ap Some (sym takes.1))))
+      subst (λ (vs : List Value). KeptRead context type.slots.items from end (bit_or seen (2 ^ slot.index)) true vs) (sym (slot_stays values slot.index v (there ∙ ap Some (sym takes.1))))
       (rejected_read context type.slots.items from place value end seen slot found values kept so_far takes.0)
 
 -- a row without members
@@ -224,7 +216,7 @@ row_empty context type from brace old new root fills long passed within closes =
     ((omega (arith, passed.bounds.0), omega (arith, within)), kept_empty context type.slots.items from brace old new (rows_long context type root) fills long passed within closes)
 
 -- a brace ends the row
-pub row_ends : (context : ReadContext) (type : RowType) (b : Bool) (from next : ℕ) (read : Progress) (old new : List Value) → IsRootType context type → IsReadTo context type b from old read → FillsAbsent context type.slots.items read.seen old new
-    → EndsMember context.line read.place (After.Brace next) → ReadsRow context type b new from next
-row_ends context type b from next read old new root kept fills ends =
-    ((omega (arith, kept.members.bounds.0, ends.0), ends.1), kept_brace context type.slots.items from read.place next read.seen b old new (rows_long context type root) fills kept ends)
+pub row_ends : (context : ReadContext) (type : RowType) (b : Bool) (from end next seen : ℕ) (old new : List Value) → IsRootType context type → KeptRead context type.slots.items from end seen b old → FillsAbsent context type.slots.items seen old new
+    → EndsMember context.line end (After.Brace next) → ReadsRow context type b new from next
+row_ends context type b from end next seen old new root kept fills ends =
+    ((omega (arith, kept.members.bounds.0, ends.0), ends.1), kept_brace context type.slots.items from end next seen b old new (rows_long context type root) fills kept ends)

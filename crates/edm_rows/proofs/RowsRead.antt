@@ -1,47 +1,43 @@
 -- A row that is the whole line, and an entity of it.
-use Rattle.std.proofs.Common.{◌≡◌, ◌≢◌, ◌++◌, take, ℕ, zero, suc, ◌+◌, ◌-◌, ◌<◌, ◌≤◌, List, [], ◌∷◌, length, drop, get_or, arith, Bool, true, false, Option, None, Some, Vec, Global, IfSome, map, slice_get, refl, sym, ap, ◌∙◌, subst}
+use Rattle.std.proofs.Common.{◌≡◌, ◌≢◌, ◌++◌, take, ℕ, zero, suc, ◌+◌, ◌-◌, ◌<◌, List, [], ◌∷◌, length, get_or, arith, Bool, true, false, Option, Some, Vec, Global, IfSome, map, slice_get, refl, sym, ap, ◌∙◌, subst}
 use Rattle.std.proofs.lemmas.List.{take_at}
 use Rattle.std.specs.List.{AllByRecursion}
 use Rattle.json.specs.Json.{value as json_value}
-use Rattle.json.specs.Lex.{Place, after_comma, after_key, after_value, between, fresh, lex, may_begin, punctuate, tokens}
-use Rattle.json.specs.Token.{begin_object}
+use Rattle.json.specs.Lex.{after_value, fresh}
 use Rattle.std.specs.Str.{IsUtf8}
 use Rattle.serde_json.specs.Data.{Data, Members, object}
 use Rattle.serde_json.specs.Find.{get, get_member}
 use Rattle.serde_json.specs.Read.{converted, of_json, read}
-use Rattle.json_tokens.proofs.LexemeLemmas.{ends_at_end, none_left}
-use Rattle.json_tokens.specs.TokenReading.{place_of}
-use Rattle.json_tokens.specs.private.Lexemes.{PassesSpaces, may_begin_at}
-use Rattle.json_tokens.specs.declared.lexeme.Turn.{Turn}
-use Rattle.json_tokens.specs.declared.lexeme.Turn.TheVariants.{AfterComma, AfterValue, Fresh}
-use Rattle.json_room.specs.Lexemes.{EndsHere, tokens_at}
+use Rattle.json_room.proofs.LexemeLemmas.{ends_at_end, none_left}
+use Rattle.json_room.specs.private.Lexemes.{PassesSpaces}
+use Rattle.json_room.specs.Lexemes.{tokens_at}
 use Rattle.csdl_schema.specs.ExpansionView.{StepModel}
 use Rattle.csdl_schema.specs.ExprType.{single, structured}
-use Rattle.csdl_schema.specs.SchemaModel.{HasDistinctNames, HoldsType, PropertyModel, SchemaModel, Slots, properties_at, slots_behind, slots_of, type_name_at}
+use Rattle.csdl_schema.specs.SchemaModel.{HasDistinctNames, HoldsType, PropertyModel, SchemaModel, properties_at, slots_behind, slots_of, type_name_at}
 use Rattle.edm_values.specs.SieveMeaning.{Rejects}
 use Rattle.edm_values.specs.Val.{FieldVal, Val, present}
 use Rattle.edm_values.specs.declared.value.Value.{Value, Record}
 use Rattle.edm_row_plans.specs.Expanded.{slots_at}
-use Rattle.edm_row_plans.specs.PassedNames.{Names}
 use Rattle.edm_entities.specs.Fits.{FitsProperty}
 use Rattle.edm_entities.specs.Row.{IsEntity, expanded_by, field_by_name, row_with, val_of}
-use Rattle.edm_entities.specs.RowReading.{IsLineBut}
-use Rattle.edm_entities.specs.private.Passed.{FitSlotsBut, IsRowValue, every_name}
-use Rattle.edm_entities.proofs.RowLemmas.Passing.{record_seen, seen_record}
-use Rattle.edm_entities.specs.private.RowTokens.{Reads, ReadsMembers}
-use Rattle.edm_entities.proofs.RowLemmas.Tokens.{object_reads, whole_read}
+use Rattle.edm_rows.specs.RowReading.{IsLineBut, Names}
+use Rattle.edm_rows.specs.private.Passed.{FitSlotsBut, IsRowValue, every_name}
+use Rattle.edm_rows.proofs.RowLemmas.Passing.{record_seen, seen_record}
+use Rattle.json_room.specs.private.ItemTokens.{ReadsMembers}
+use Rattle.json_room.proofs.Tokens.{whole_read}
 use Rattle.edm_entities.proofs.SlotLemmas.ReadEntities.{is_entity, val_of-Record}
-use Rattle.edm_rows.specs.RowItems.{IsJsonBut, IsJsonLeftOut, ValueStands}
+use Rattle.json_room.specs.ValueStands.{ValueStands}
+use Rattle.edm_rows.specs.RowItems.{IsJsonBut, IsJsonLeftOut}
 use Rattle.edm_rows.specs.RowsOfType.{IsLeftOut, RowsOfType, names_unkept, row_held}
 use Rattle.edm_rows.specs.declared.kept_leaf.Taken.{Taken}
 use Rattle.edm_rows.specs.declared.kept_leaf.Taken.TheVariants.{Broken, Nothing, Put, Rejected}
 use Rattle.edm_rows.specs.declared.passed_value.ReadContext.{ReadContext}
+use Rattle.json_room.proofs.Places.{object_to, reads_to_as, spaces_at}
+use Rattle.json_room.specs.private.ValuesStand.{PassesTo}
 use Rattle.edm_rows.specs.declared.row_types.RowSlot.{RowSlot}
-use Rattle.edm_rows.proofs.Places.{object_opened, object_to, reads_to_as, spaces_at}
-use Rattle.edm_rows.specs.private.Held.{ReadsTo}
 use Rattle.edm_rows.specs.declared.row_types.RowType.{RowType}
 use Rattle.edm_rows.specs.private.HeldRows.{IsTakenWhole, IsTakenWithin, ReadsRowAt, TakesMembers, TakesObject, first_slots}
-use Rattle.edm_rows.specs.private.KeptRows.{IsRowRejected, ReadsRow, TakesFound, TakesRow, names_unkept_in, root_properties, root_slots}
+use Rattle.edm_rows.specs.private.KeptRows.{IsRowRejected, ReadsRow, TakesFound, TakesRow, names_unkept_in, root_properties}
 use Rattle.edm_rows.proofs.TypesChanged.{first_slots_are}
 
 module _ (schema : SchemaModel) (id : ℕ) (steps : List StepModel) (held : HoldsType schema id) (distinct : HasDistinctNames (properties_at schema id)) where
@@ -115,46 +111,22 @@ members_back context type values rest count from (Rejected to) long took =
 
 -- ---- a row that begins at an offset
 
-object_at : (context : ReadContext) (type : RowType) (is_left_out : Bool) (values : List Value) (place to : ℕ) → place < length context.line → get_or context.line place 32 ≡ 123 → ReadsRow context type is_left_out values (place + 1) to
-    → ReadsTo (context.depth + 1) context.line place to (λ json. (found : Members) × (json ≡ object found) × TakesFound context type is_left_out values found)
-object_at context type is_left_out values place to within opens reads =
+-- an object whose members are so
+pub object_at : (context : ReadContext) (P : Members → Type 0) (place to : ℕ) → place < length context.line → get_or context.line place 32 ≡ 123
+    → PassesTo context.line (place + 1) to × ReadsMembers context.depth (tokens_at fresh context.line (place + 1)) (tokens_at after_value context.line to) P
+    → ValueStands (context.depth + 1) context.line place to (λ json. (found : Members) × (json ≡ object found) × P found)
+object_at context P place to within opens reads =
     let same : context.depth ≡ context.depth + 1 - 1 = omega arith in
-    object_to (context.depth + 1) context.line place to (TakesFound context type is_left_out values) (λ json. (found : Members) × (json ≡ object found) × TakesFound context type is_left_out values found) (omega arith) within opens
+    object_to (context.depth + 1) context.line place to P (λ json. (found : Members) × (json ≡ object found) × P found) (omega arith) within opens
     (λ found holds. (found, refl, holds)) reads.0
-    (subst (λ (d : ℕ). ReadsMembers d (tokens_at Fresh context.line (place + 1)) (tokens_at AfterValue context.line to) (TakesFound context type is_left_out values)) same reads.1)
+    (subst (λ (d : ℕ). ReadsMembers d (tokens_at fresh context.line (place + 1)) (tokens_at after_value context.line to) P) same reads.1)
 
 pub object_taken : (context : ReadContext) (row : Value) (values : Vec Value Global) (place : ℕ) (taken : Taken) → row ≡ Record values → place < length context.line → get_or context.line place 32 ≡ 123
     → TakesMembers context values.items (place + 1) taken → TakesObject context row place taken
 object_taken context row values place Nothing is within opens took = tt
 object_taken context row values place Broken is within opens took = tt
-object_taken context row values place (Put to) is within opens took = (values, is, (took.0, took.1, object_at context took.0 false values.items place to within opens took.2))
-object_taken context row values place (Rejected to) is within opens took = (values, is, (took.0, took.1, object_at context took.0 true values.items place to within opens took.2))
-
--- a value that stands after one of these turns stands at each offset where one may begin
-pub value_stands : (depth : ℕ) (text : List ℕ) (from to : ℕ) (P : Data → Type 0) → ReadsTo depth text from to P → ValueStands depth text from to P
-value_stands depth text from to P reads = record { bounds = reads.bounds; read = by }
-  where
-    reported : (turn : Turn) → may_begin_at turn ≡ true → EndsHere text to → (json : Data) × (converted of_json (json_value depth (tokens_at turn text from)) ≡ Some (json, tokens_at AfterValue text to)) × P json
-    reported turn may here = let is = reads.reads turn may here in (is.json, is.is_read, is.holds)
-
-    by : (p : Place) → may_begin p ≡ true → EndsHere text to → (json : Data) × (converted of_json (json_value depth (punctuate p (lex between (drop from text)))) ≡ Some (json, tokens_at AfterValue text to)) × P json
-    by fresh may here = reported Fresh may here
-    by after_value may here = absurd (cc)
-    by after_comma may here = reported AfterComma may here
-    by after_key may here = absurd (cc)
-
-pub values_stand : (depth : ℕ) (text : List ℕ) (from : ℕ) (P : Data → Type 0) (o : Option ℕ) → IfSome o (λ to. ReadsTo depth text from to P) → IfSome o (λ to. ValueStands depth text from to P)
-values_stand depth text from P None reads = tt
-values_stand depth text from P (Some to) reads = value_stands depth text from to P reads
-
--- and the other way round
-pub stands_read : (depth : ℕ) (text : List ℕ) (from to : ℕ) (P : Data → Type 0) → ValueStands depth text from to P → ReadsTo depth text from to P
-stands_read depth text from to P stands =
-    record { bounds = stands.bounds; reads = λ turn may here. let is = stands.read (place_of turn) may here in record { json = is.0; is_read = is.1; holds = is.2 } }
-
--- what is said of a value that stands there
-pub stands_so : (depth : ℕ) (text : List ℕ) (from to : ℕ) (P Q : Data → Type 0) → ((json : Data) → P json → Q json) → ValueStands depth text from to P → ValueStands depth text from to Q
-stands_so depth text from to P Q so stands = record { bounds = stands.bounds; read = λ p may here. let is = stands.read p may here in (is.0, is.1, so is.0 is.2) }
+object_taken context row values place (Put to) is within opens took = (values, is, (took.0, took.1, object_at context (TakesFound context took.0 false values.items) place to within opens took.2))
+object_taken context row values place (Rejected to) is within opens took = (values, is, (took.0, took.1, object_at context (TakesFound context took.0 true values.items) place to within opens took.2))
 
 -- ---- the reader of these rows
 
@@ -174,10 +146,10 @@ rows_on context types is_ready row = record {
 -- what became of an item
 module _ (context : ReadContext) (row : Value) (taken : Taken) (place to : ℕ) (is_ready : Bool) (text : List ℕ) (types : List RowType) (depth : ℕ) (took : TakesObject context row place taken) (same : context.line ≡ text) (are : context.types.now ≡ types) (as_deep : context.depth ≡ depth)
     (held : HoldsType context.schema.now context.plan.now.type_id) (distinct : HasDistinctNames (root_properties context)) where
-  item_as : (P Q : Data → Type 0) → ((json : Data) → P json → Q json) → ReadsTo (context.depth + 1) context.line place to P → ValueStands (depth + 1) text place to Q
+  item_as : (P Q : Data → Type 0) → ((json : Data) → P json → Q json) → ValueStands (context.depth + 1) context.line place to P → ValueStands (depth + 1) text place to Q
   item_as P Q by reads =
-      let there = subst (λ (l : List ℕ). ReadsTo (depth + 1) l place to P) same (subst (λ (d : ℕ). ReadsTo (d + 1) context.line place to P) as_deep reads) in
-      value_stands (depth + 1) text place to Q (reads_to_as (depth + 1) text place to P Q by there)
+      let there = subst (λ (l : List ℕ). ValueStands (depth + 1) l place to P) same (subst (λ (d : ℕ). ValueStands (d + 1) context.line place to P) as_deep reads) in
+      reads_to_as (depth + 1) text place to P Q by there
 
   pub item_taken : taken ≡ Taken.Put to → ValueStands (depth + 1) text place to (λ json. IsJsonBut json (names_unkept (rows_on context types is_ready row)) (row_held (rows_on context types is_ready row)))
   item_taken is =
@@ -216,13 +188,13 @@ by_way P (Rejected to) put rejected none broken = rejected to refl
 -- ---- the whole line
 
 -- a value that is the whole text, but for white space
-whole_value : (text : List ℕ) (begin to : ℕ) (P : Data → Type 0) → PassesSpaces text 0 begin → PassesSpaces text to (length text) → ValueStands 127 text begin to P → (json : Data) × (read text ≡ Some json) × P json
+pub whole_value : (text : List ℕ) (begin to : ℕ) (P : Data → Type 0) → PassesSpaces text 0 begin → PassesSpaces text to (length text) → ValueStands 127 text begin to P → (json : Data) × (read text ≡ Some json) × P json
 whole_value text begin to P passed last stands =
     let over = ends_at_end text to (length text) last refl in
-    let is = stands.read fresh refl (record { ends = over.ends; no_colon = over.no_colon }) in
-    let started = ap (λ ts. converted of_json (json_value 127 ts)) (sym (spaces_at Fresh text 0 begin passed)) in
-    let ended : tokens_at AfterValue text to ≡ [] = none_left AfterValue text to (length text) refl last refl in
-    (is.0, whole_read text is.0 (started ∙ is.1 ∙ ap (λ left. Some (is.0, left)) ended), is.2)
+    let is = stands.reads fresh refl (record { ends = over.ends; no_colon = over.no_colon }) in
+    let started = ap (λ ts. converted of_json (json_value 127 ts)) (sym (spaces_at fresh text 0 begin passed)) in
+    let ended : tokens_at after_value text to ≡ [] = none_left after_value text to (length text) refl last refl in
+    (is.json, whole_read text is.json (started ∙ is.is_read ∙ ap (λ left. Some (is.json, left)) ended), is.holds)
 
 module _ (text : List ℕ) (begin to : ℕ) (rows : RowsOfType) (taken : Taken) (utf8 : IsUtf8 text) (passed : PassesSpaces text 0 begin) (last : IsTakenWhole text taken) (reads : ReadsRowAt 126 text begin rows taken) where
   pub line_kept : taken ≡ Taken.Put to → IsLineBut text (names_unkept rows) (row_held rows)

@@ -1,25 +1,26 @@
 -- The members of an object of a type: which slots were seen, and that they fit.
-use Rattle.std.proofs.Common.{◌≡◌, ◌≢◌, ◌⊎◌, ⊎_elim, inl, inr, ℕ, zero, suc, ◌+◌, ◌-◌, ◌^◌, ◌<◌, ◌≤◌, List, [], ◌∷◌, length, map, slice_get, slice_set, get_or, Bool, true, false, Option, None, Some, IfSome, refl, sym, ap, ◌∙◌, subst, arith}
+use Rattle.std.proofs.Common.{◌≡◌, ◌≢◌, ◌⊎◌, ⊎_elim, inl, inr, ℕ, zero, suc, ◌+◌, ◌^◌, ◌<◌, ◌≤◌, List, [], ◌∷◌, length, map, slice_get, slice_set, get_or, Bool, true, false, Option, None, Some, IfSome, refl, sym, ap, ◌∙◌, subst, arith}
 use Rattle.std.specs.Int.{bit_at}
 use Rattle.std.specs.Prelude.{bit_or, max, replicate}
 use Rattle.std.proofs.lemmas.Bool.{cases_lt}
-use Rattle.std.proofs.lemmas.Nat.Bits.{bit_at-lt, bit_at-pow_other, bit_at-zero, bit_at_ones, bit_at_or}
+use Rattle.std.proofs.lemmas.Nat.Bits.{bit_at-pow_other, bit_at-zero, bit_at_or}
 use Rattle.serde_json.specs.Data.{Data, object}
 use Rattle.csdl_schema.specs.SchemaModel.{PropertyModel, Slots, HasDistinctNames, slots_behind}
-use Rattle.json_tokens.specs.private.Lexemes.{PassesSpaces}
-use Rattle.json_tokens.specs.declared.lexeme.Turn.TheVariants.{Fresh, AfterValue}
+use Rattle.json_room.specs.private.Lexemes.{PassesSpaces}
 use Rattle.json_room.specs.Lexemes.{tokens_at}
 use Rattle.edm_values.specs.Val.{null}
 use Rattle.edm_values.specs.declared.value.Value.{Null}
-use Rattle.edm_entities.specs.private.Passed.{FitSomeSlots, FitsSeen, FitsSomeProperty, MayBeAbsent, PassedSoFar, every_name}
-use Rattle.edm_entities.specs.private.RowTokens.{ReadsMembers}
-use Rattle.edm_entities.proofs.RowLemmas.Passing.{all_passed, others_passed, passed_set, passed_start, some_values}
+use Rattle.edm_rows.specs.private.Passed.{FitSomeSlots, FitsSeen, FitsSomeProperty, MayBeAbsent, PassedSoFar, every_name}
+use Rattle.json_room.specs.private.ItemTokens.{ReadsMembers}
+use Rattle.edm_rows.proofs.RowLemmas.Passing.{all_passed, others_passed, passed_set, passed_start, some_values}
 use Rattle.std.proofs.lemmas.List.{length-set}
+use Rattle.json.specs.Lex.{fresh, after_value}
 use Rattle.edm_rows.proofs.SlotsHeld.{found_in, mark_kept, mark_set}
 use Rattle.edm_rows.specs.declared.members.After.{After}
-use Rattle.edm_rows.specs.private.Held.{ReadsTo}
-use Rattle.edm_rows.specs.private.Members.{EndsMember, NamesTo, PassesOther}
-use Rattle.edm_rows.proofs.Places.{MembersRead, MembersUpTo, brace_then, comma_then, member_then, members_begin, no_members_read}
+use Rattle.json_room.specs.ValueStands.{ValueStands}
+use Rattle.json_room.specs.private.ValuesStand.{NamesTo, MembersRead, MembersUpTo}
+use Rattle.edm_rows.specs.private.Members.{EndsMember, PassesOther}
+use Rattle.json_room.proofs.Places.{brace_then, comma_then, member_then, members_begin, no_members_read}
 
 -- the slot of each bit that is set was filled
 abbrev pub AreMarked : ℕ → List Bool → Type 0
@@ -74,7 +75,7 @@ module _ (slots : Slots) (ps : List PropertyModel) (depth : ℕ) (line : List �
   -- a member of a slot
   pub seen_slot : (place value end seen index : ℕ) (name : List ℕ) (Q : Data → Type 0) → HasDistinctNames ps → index < length ps → slice_get (map (λ p. p.name) ps) index ≡ Some name
       → ((json : Data) → Q json → IfSome (slice_get ps index) (λ p. FitsSomeProperty (slots_behind slots p.name) p.nullable p.type_of (Some json)))
-      → SeenUpTo place seen → NamesTo line place name value → ReadsTo depth line value end Q → SeenRead end (bit_or seen (2 ^ index))
+      → SeenUpTo place seen → NamesTo line place name value → ValueStands depth line value end Q → SeenRead end (bit_or seen (2 ^ index))
   seen_slot place value end seen index name Q distinct within at fits so_far named reads =
       record {
         filled = slice_set so_far.filled index true;
@@ -114,34 +115,28 @@ module _ (slots : Slots) (ps : List PropertyModel) (depth : ℕ) (line : List �
         members = comma_then depth line from end next (λ found. PassedSoFar slots ps found read.filled) read.members ends;
       }
 
-  -- a slot whose bit is set in neither word is not there
-  either_bit : (seen optional k n : ℕ) → bit_or seen optional ≡ 2 ^ n - 1 → k < n → (bit_at seen k ≡ 1) ⊎ (bit_at optional k ≡ 1)
-  either_bit seen optional k n all within =
-      let both : max (bit_at seen k) (bit_at optional k) ≡ 1 = sym (bit_at_or seen optional k) ∙ ap (λ w. bit_at w k) all ∙ bit_at_ones n k within in
-      ⊎_elim (λ low. inr (omega (arith, both, low))) (λ high. inl (omega (arith, both, high, bit_at-lt seen k))) (cases_lt (bit_at seen k) 1)
-
   past_end : {X : Type 0} (P : X → Type 0) (xs : List X) (k : ℕ) → length xs ≤ k → IfSome (slice_get xs k) P
   past_end P [] zero past = tt
   past_end P [] (suc k) past = tt
   past_end P (x ∷ xs) zero past = absurd (omega (arith, past))
   past_end P (x ∷ xs) (suc k) past = past_end P xs k (omega (arith, past))
 
-  settled : (seen optional : ℕ) (filled : List Bool) → bit_or seen optional ≡ 2 ^ length ps - 1 → ((k : ℕ) → bit_at optional k ≡ 1 → IfSome (slice_get ps k) (MayBeAbsent slots)) → AreMarked seen filled
+  settled : (seen optional : ℕ) (filled : List Bool) → ((k : ℕ) → k < length ps → (bit_at seen k ≡ 1) ⊎ (bit_at optional k ≡ 1)) → ((k : ℕ) → bit_at optional k ≡ 1 → IfSome (slice_get ps k) (MayBeAbsent slots)) → AreMarked seen filled
       → (k : ℕ) → (get_or filled k false ≡ true) ⊎ IfSome (slice_get ps k) (MayBeAbsent slots)
   settled seen optional filled all may marks k =
-      ⊎_elim (λ within. ⊎_elim (λ is. inl (marks k is)) (λ is. inr (may k is)) (either_bit seen optional k (length ps) all within))
+      ⊎_elim (λ within. ⊎_elim (λ is. inl (marks k is)) (λ is. inr (may k is)) (all k within))
       (λ past. inr (past_end (MayBeAbsent slots) ps k past)) (cases_lt k (length ps))
 
   -- at the brace each slot was seen, or may be absent
-  pub seen_brace : (end next seen optional : ℕ) → bit_or seen optional ≡ 2 ^ length ps - 1 → ((k : ℕ) → bit_at optional k ≡ 1 → IfSome (slice_get ps k) (MayBeAbsent slots))
-      → SeenRead end seen → EndsMember line end (After.Brace next) → ReadsMembers depth (tokens_at Fresh line from) (tokens_at AfterValue line next) (λ found. FitSomeSlots slots ps (object found))
+  pub seen_brace : (end next seen optional : ℕ) → ((k : ℕ) → k < length ps → (bit_at seen k ≡ 1) ⊎ (bit_at optional k ≡ 1)) → ((k : ℕ) → bit_at optional k ≡ 1 → IfSome (slice_get ps k) (MayBeAbsent slots))
+      → SeenRead end seen → EndsMember line end (After.Brace next) → ReadsMembers depth (tokens_at fresh line from) (tokens_at after_value line next) (λ found. FitSomeSlots slots ps (object found))
   seen_brace end next seen optional all may read ends =
       brace_then depth line from end next (λ found. PassedSoFar slots ps found read.filled) (λ found. FitSomeSlots slots ps (object found))
       (λ found holds. (holds.0, all_passed slots every_name (found_in found) ps read.filled holds.0 (λ _. tt) (settled seen optional read.filled all may read.marks) holds.1)) read.members ends
 
   -- where no member stands, each slot may be absent
-  pub seen_empty : (brace optional : ℕ) → optional ≡ 2 ^ length ps - 1 → ((k : ℕ) → bit_at optional k ≡ 1 → IfSome (slice_get ps k) (MayBeAbsent slots)) → PassesSpaces line from brace → brace < length line
-      → get_or line brace 32 ≡ 125 → ReadsMembers depth (tokens_at Fresh line from) (tokens_at AfterValue line (brace + 1)) (λ found. FitSomeSlots slots ps (object found))
+  pub seen_empty : (brace optional : ℕ) → ((k : ℕ) → k < length ps → bit_at optional k ≡ 1) → ((k : ℕ) → bit_at optional k ≡ 1 → IfSome (slice_get ps k) (MayBeAbsent slots)) → PassesSpaces line from brace → brace < length line
+      → get_or line brace 32 ≡ 125 → ReadsMembers depth (tokens_at fresh line from) (tokens_at after_value line (brace + 1)) (λ found. FitSomeSlots slots ps (object found))
   seen_empty brace optional all may passed within is =
       let values = some_values ps in
       let filled = replicate (length ps) false in
@@ -149,5 +144,5 @@ module _ (slots : Slots) (ps : List PropertyModel) (depth : ℕ) (line : List �
       (λ found holds. (
         holds.0,
         all_passed slots every_name (found_in found) ps filled holds.0 (λ _. tt)
-            (λ k. inr (⊎_elim (λ inside. may k (ap (λ w. bit_at w k) all ∙ bit_at_ones (length ps) k inside)) (λ past. past_end (MayBeAbsent slots) ps k past) (cases_lt k (length ps)))) holds.1,
+            (λ k. inr (⊎_elim (λ inside. may k (all k inside)) (λ past. past_end (MayBeAbsent slots) ps k past) (cases_lt k (length ps)))) holds.1,
       )) (values.0, passed_start slots every_name ps (length ps) filled values.0 refl (omega arith) values.1)

@@ -6,7 +6,7 @@ use Rattle.serde_json.specs.Find.{get_member}
 use Rattle.serde_json.proofs.Views.{get_member-put, get_member-put_other}
 use Rattle.csdl_schema.specs.SchemaModel.{HasDistinctNames, PropertyModel, Slots, slots_behind}
 use Rattle.edm_values.specs.declared.value.Value.{Value}
-use Rattle.edm_entities.specs.private.SlotsSoFar.{HoldEachSoFar, HoldsSoFar, SlotsSoFar}
+use Rattle.edm_rows.specs.private.SlotsSoFar.{HoldEachSoFar, HoldsSoFar, SlotsSoFar}
 use Rattle.edm_entities.specs.Fits.{FitsProperty}
 use Rattle.edm_entities.specs.Row.{field_of, val_of}
 use Rattle.edm_entities.specs.private.Walk.{HoldsInSlot}

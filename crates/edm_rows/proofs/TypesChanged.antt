@@ -1,5 +1,5 @@
 -- Types of rows stay those of their plans, whatever is kept and sifted.
-use Rattle.std.proofs.Common.{◌≡◌, ◌≢◌, ◌⊎◌, ⊎_elim, ℕ, zero, suc, ◌^◌, ◌-◌, ◌<◌, ◌≤◌, List, [], ◌∷◌, length, map, Bool, Option, None, Some, IfSome, slice_get, slice_set, refl, sym, ap, ◌∙◌, subst, arith}
+use Rattle.std.proofs.Common.{◌≡◌, ◌≢◌, ◌⊎◌, ⊎_elim, ℕ, zero, suc, ◌^◌, ◌-◌, ◌<◌, ◌≤◌, List, [], ◌∷◌, length, map, Bool, true, Option, None, Some, IfSome, slice_get, slice_set, refl, sym, ap, ◌∙◌, subst, arith}
 use Rattle.std.proofs.lemmas.Option.{slice_get_within}
 use Rattle.std.specs.Int.{bit_at}
 use Rattle.csdl_schema.specs.ExpansionView.{StepModel}
@@ -8,7 +8,7 @@ use Rattle.edm_values.specs.declared.sieve.Sieve.{Sieve}
 use Rattle.edm_row_plans.specs.declared.type_plan.SlotPlan.{SlotPlan}
 use Rattle.edm_row_plans.specs.declared.type_plan.TypePlan.{TypePlan}
 use Rattle.edm_row_plans.specs.Expanded.{slots_at}
-use Rattle.edm_entities.specs.private.Passed.{MayBeAbsent}
+use Rattle.edm_rows.specs.private.Passed.{MayBeAbsent}
 use Rattle.std.proofs.lemmas.List.{length-set}
 use Rattle.edm_rows.proofs.Indexes.{other_kept}
 use Rattle.edm_rows.proofs.KeptMembers.{same_number}
@@ -16,7 +16,8 @@ use Rattle.edm_rows.specs.declared.row_types.RowSlot.{RowSlot}
 use Rattle.edm_rows.specs.declared.row_types.RowType.{RowType}
 use Rattle.edm_row_plans.specs.declared.row_plan.RowPlan.{RowPlan}
 use Rattle.edm_rows.specs.private.HeldRows.{AreTypesOf, HasFirstType, IsSameType, first_slots}
-use Rattle.edm_rows.specs.private.RowSlots.{AreRowTypes, IsRowSlot, IsRowType, IsSlotOf, LeadsTo}
+use Rattle.seen_slots.specs.SlotBits.{bits_of}
+use Rattle.edm_rows.specs.private.RowSlots.{AreFew, AreRowTypes, IsRowSlot, IsRowType, IsSlotOf, LeadsTo}
 
 -- only what is kept of a slot's values and their sieve may be another
 abbrev pub slot_as : RowSlot → Bool → Sieve → RowSlot
@@ -26,7 +27,6 @@ module _ (schema : SchemaModel) (steps : List StepModel) (plans : List TypePlan)
   slot_stays : (index : ℕ) (p : SlotPlan) (slot : RowSlot) (kept : Bool) (sieve : Sieve) → IsRowSlot schema steps plans index p slot → IsRowSlot schema steps plans index p (slot_as slot kept sieve)
   slot_stays index p slot kept sieve is =
       record {
-        named = is.named;
         behind = is.behind;
         index_is = is.index_is;
         bit = is.bit;
@@ -56,30 +56,49 @@ module _ (schema : SchemaModel) (steps : List StepModel) (plans : List TypePlan)
       set_one (x ∷ xs) zero e is = is
       set_one (x ∷ xs) (suc j) e is = set_one xs j e is
 
+  -- each slot keeps its name
+  named_stays : (slots : List RowSlot) (n : ℕ) (slot : RowSlot) (kept : Bool) (sieve : Sieve) (names : ℕ → List ℕ → Type 0) → slice_get slots n ≡ Some slot → ((k : ℕ) → IfSome (slice_get slots k) (λ s. names k s.key))
+      → (k : ℕ) → IfSome (slice_get (slice_set slots n (slot_as slot kept sieve)) k) (λ s. names k s.key)
+  named_stays [] n slot kept sieve names at each k = absurd (cc)
+  named_stays (x ∷ xs) zero slot kept sieve names at each zero = let here : x ≡ slot = cc in subst (λ (s : RowSlot). names 0 s.key) here (each 0)
+  named_stays (x ∷ xs) zero slot kept sieve names at each (suc k) = each (suc k)
+  named_stays (x ∷ xs) (suc n) slot kept sieve names at each zero = each 0
+  named_stays (x ∷ xs) (suc n) slot kept sieve names at each (suc k) = named_stays xs n slot kept sieve (λ j. names (suc j)) at (λ j. each (suc j)) k
+
   -- a type of which one slot was changed so
   pub type_stays : (p : TypePlan) (type changed : RowType) (n : ℕ) (slot : RowSlot) (kept : Bool) (sieve : Sieve) → slice_get type.slots.items n ≡ Some slot → changed.slots.items ≡ slice_set type.slots.items n (slot_as slot kept sieve) → changed.type_id ≡ type.type_id
-      → changed.node ≡ type.node → changed.all ≡ type.all → changed.optional ≡ type.optional → changed.order ≡ type.order → IsRowType schema steps plans p type → IsRowType schema steps plans p changed
-  type_stays p type changed n slot kept sieve at same id node all optional order is =
+      → changed.node ≡ type.node → changed.all.words ≡ type.all.words → changed.optional.words ≡ type.optional.words → changed.all_few ≡ type.all_few → changed.order ≡ type.order → IsRowType schema steps plans p type → IsRowType schema steps plans p changed
+  type_stays p type changed n slot kept sieve at same id node all optional few order is =
       let long : length changed.slots.items ≡ length type.slots.items = ap length same ∙ length-set type.slots.items n (slot_as slot kept sieve) in
       record {
         is_plan = is.is_plan;
         of_type = (id ∙ is.of_type.0, node ∙ is.of_type.1);
         count = long ∙ is.count;
-        few = subst (λ k. k ≤ 64) (sym long) is.few;
-        order = subst (λ k. k < 256) (sym order) is.order;
+        few = subst (λ k. k ≤ 1024) (sym long) is.few;
+        order = subst (λ k. k < 1024) (sym order) is.order;
         each = λ k. subst (λ xs. IfSome (slice_get xs k) (λ s. IfSome (slice_get p.slots.items k) (λ q. IsRowSlot schema steps plans k q s))) (sym same) (each_stays type.slots.items p.slots.items n slot kept sieve at is.each k);
-        all = all ∙ is.all ∙ ap (λ k. 2 ^ k - 1) (sym long);
+        named = λ k. subst (λ (i : ℕ). IfSome (slice_get changed.slots.items k) (λ s. slice_get (map (λ q. q.name) (properties_at schema i)) k ≡ Some s.key)) (sym id)
+            (subst (λ xs. IfSome (slice_get xs k) (λ s. slice_get (map (λ q. q.name) (properties_at schema type.type_id)) k ≡ Some s.key)) (sym same)
+            (named_stays type.slots.items n slot kept sieve (λ j name. slice_get (map (λ q. q.name) (properties_at schema type.type_id)) j ≡ Some name) at is.named k));
+        all = λ k inside. ap (λ (ws : List ℕ). bit_at (bits_of ws) k) all ∙ is.all k (subst (λ n. k < n) long inside);
+        few_each = λ e. is.few_each (sym few ∙ e);
         optional = λ k e.
             subst (λ (i : ℕ). IfSome (slice_get (properties_at schema i) k) (MayBeAbsent (slots_at schema steps changed.node))) (sym id)
-            (subst (λ (o : Option ℕ). IfSome (slice_get (properties_at schema type.type_id) k) (MayBeAbsent (slots_at schema steps o))) (sym node) (is.optional k (ap (λ (w : ℕ). bit_at w k) (sym optional) ∙ e)));
+            (subst (λ (o : Option ℕ). IfSome (slice_get (properties_at schema type.type_id) k) (MayBeAbsent (slots_at schema steps o))) (sym node) (is.optional k (ap (λ (ws : List ℕ). bit_at (bits_of ws) k) (sym optional) ∙ e)));
       }
+
+-- what a type says of all of them
+pub says_few : (schema : SchemaModel) (steps : List StepModel) (plans : List TypePlan) (p : TypePlan) (type : RowType) (few : Bool) → (few ≡ true → AreFew plans) → IsRowType schema steps plans p type
+    → IsRowType schema steps plans p (record type { all_few = few })
+says_few schema steps plans p type few said is =
+    record { is_plan = is.is_plan; of_type = is.of_type; count = is.count; few = is.few; order = is.order; each = is.each; named = is.named; all = is.all; few_each = said; optional = is.optional }
 
 -- ---- a type that is the same but for these
 
 pub same_type : (old changed : RowType) (n : ℕ) (slot : RowSlot) (kept : Bool) (sieve : Sieve) → slice_get old.slots.items n ≡ Some slot → changed.slots.items ≡ slice_set old.slots.items n (slot_as slot kept sieve) → changed.type_id ≡ old.type_id
-    → changed.node ≡ old.node → changed.all ≡ old.all → changed.optional ≡ old.optional → changed.order ≡ old.order → IsSameType old changed
-same_type old changed n slot kept sieve at same id node all optional order =
-    record { type_id = id; node = node; stays = λ schema steps plans plan is. type_stays schema steps plans plan old changed n slot kept sieve at same id node all optional order is }
+    → changed.node ≡ old.node → changed.all.words ≡ old.all.words → changed.optional.words ≡ old.optional.words → changed.all_few ≡ old.all_few → changed.order ≡ old.order → IsSameType old changed
+same_type old changed n slot kept sieve at same id node all optional few order =
+    record { type_id = id; node = node; stays = λ schema steps plans plan is. type_stays schema steps plans plan old changed n slot kept sieve at same id node all optional few order is }
 
 pub same_self : (type : RowType) → IsSameType type type
 same_self type = record { type_id = refl; node = refl; stays = λ schema steps plans plan is. is }

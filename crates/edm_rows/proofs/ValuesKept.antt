@@ -4,8 +4,7 @@ use Rattle.json.specs.Json.{value as json_value}
 use Rattle.json.specs.Token.{null as null_token}
 use Rattle.serde_json.specs.Data.{Data, null as json_null}
 use Rattle.serde_json.specs.Read.{converted, of_json}
-use Rattle.json_tokens.specs.private.Lexemes.{PassesSpaces, may_begin_at}
-use Rattle.json_tokens.specs.declared.lexeme.Turn.TheVariants.{AfterValue, Fresh}
+use Rattle.json_room.specs.private.Lexemes.{PassesSpaces}
 use Rattle.csdl_schema.specs.ExprType.{ExprType, SingleType, enumeration, primitive, single}
 use Rattle.csdl_schema.specs.PropertyView.{property_type}
 use Rattle.csdl_schema.specs.SchemaModel.{PropertyModel, PropertyType, SchemaModel, Slots, declared, properties_at, slots_behind, slots_of}
@@ -18,13 +17,14 @@ use Rattle.edm_values.specs.declared.value.Value.{Value, Null}
 use Rattle.edm_row_plans.specs.Expanded.{slots_at}
 use Rattle.edm_entities.specs.Fits.{FitsFound, FitsProperty, FitsType}
 use Rattle.edm_entities.specs.Row.{ValAtType, val_of}
-use Rattle.edm_entities.specs.private.Passed.{FitsSeen, FitsSomeHowever}
-use Rattle.edm_entities.specs.private.RowTokens.{FitsHoweverNullable}
+use Rattle.edm_rows.specs.private.Passed.{FitsSeen, FitsSomeHowever, FitsHoweverNullable}
 use Rattle.edm_entities.specs.private.Walk.{HoldsInSlot}
-use Rattle.edm_entities.proofs.RowLemmas.Leaves.{not_null_fits, null_token as null_read}
-use Rattle.edm_entities.proofs.RowLemmas.SlotTexts.{slot_declared}
+use Rattle.json_room.proofs.Tokens.{null_token as null_read}
+use Rattle.edm_rows.proofs.RowLemmas.Leaves.{not_null_fits}
+use Rattle.edm_rows.proofs.RowLemmas.SlotTexts.{slot_declared}
 use Rattle.edm_entities.proofs.SlotLemmas.EachSlot.{member_holds, null_holds, primitive_holds}
 use Rattle.std.proofs.lemmas.List.{get_or_default}
+use Rattle.json.specs.Lex.{fresh, after_value, may_begin}
 use Rattle.json_room.proofs.RoomLemmas.{within_byte}
 use Rattle.json_room.specs.Lexemes.{EndsHere, StandsTo, tokens_at}
 use Rattle.edm_rows.specs.declared.kept_leaf.Taken.{Taken}
@@ -33,13 +33,14 @@ use Rattle.edm_rows.specs.declared.passed_value.ReadContext.{ReadContext}
 use Rattle.edm_rows.specs.declared.row_types.RowSlot.{RowSlot}
 use Rattle.edm_rows.specs.declared.row_types.Task.{Task}
 use Rattle.edm_rows.specs.declared.row_types.Task.TheVariants.{Any, Date, Guid, Items, Member, Moment, Number, Record, Text, Truth}
+use Rattle.json_room.specs.ValueStands.{ValueStands}
 use Rattle.edm_rows.specs.private.Filled.{FillsValue, IsFilledIn}
-use Rattle.edm_rows.specs.private.Held.{IsLeaf, ReadsTo, type_of}
+use Rattle.edm_rows.specs.private.Held.{IsLeaf, type_of}
 use Rattle.edm_rows.specs.private.KeptLeaves.{IsLeafOf, IsLeafRejected, PutsLeaf, TakesLeaf}
 use Rattle.edm_rows.specs.private.KeptRows.{ConformsInSlot, FitsSlotAs, GoesOn, IsRejectedIn, IsRootSlot, OfSlotProperty, TakesValue, root_properties, root_slots}
+use Rattle.json_room.proofs.Places.{begins_at, reads_behind, reads_to_as}
 use Rattle.edm_rows.specs.private.RowSlots.{HasPrimitive, IsTaskOf, kinds_of}
 use Rattle.edm_entities.proofs.SlotLemmas.FoundWalk.{val_of-Null}
-use Rattle.edm_rows.proofs.Places.{begins_at, reads_behind, reads_to_as}
 
 module _ (context : ReadContext) (slot : RowSlot) (root : IsRootSlot context slot) where
   abbrev inner : Slots
@@ -82,15 +83,15 @@ module _ (context : ReadContext) (slot : RowSlot) (root : IsRootSlot context slo
 
     -- a leaf of a primitive type, or of the slot's enumeration
     module _ (type : PrimitiveType) (is : task_type ≡ primitive type) where
-      pub primitive_put : (line : List ℕ) (depth from to : ℕ) (v : Value) → PutsLeaf line (primitive type) v from to → ReadsTo depth line from to (FitsSlotAs context slot (val_of v))
+      pub primitive_put : (line : List ℕ) (depth from to : ℕ) (v : Value) → PutsLeaf line (primitive type) v from to → ValueStands depth line from to (FitsSlotAs context slot (val_of v))
       primitive_put line depth from to v puts =
           reads_to_as depth line from to (FitsHoweverNullable inner (single task_type) v) (FitsSlotAs context slot (val_of v)) (leaf_fits v)
-          (subst (λ t. ReadsTo depth line from to (FitsHoweverNullable inner (single t) v)) (sym is) (puts.1 inner depth))
+          (subst (λ t. ValueStands depth line from to (FitsHoweverNullable inner (single t) v)) (sym is) (puts.1 inner depth))
 
-      pub primitive_rejected : (line : List ℕ) (depth from to : ℕ) (sieve : Sieve) → ((slots : Slots) (d : ℕ) → ReadsTo d line from to (IsLeafRejected slots (primitive type) sieve)) → ReadsTo depth line from to (IsRejectedIn context slot sieve)
+      pub primitive_rejected : (line : List ℕ) (depth from to : ℕ) (sieve : Sieve) → ((slots : Slots) (d : ℕ) → ValueStands d line from to (IsLeafRejected slots (primitive type) sieve)) → ValueStands depth line from to (IsRejectedIn context slot sieve)
       primitive_rejected line depth from to sieve reads =
           reads_to_as depth line from to (IsLeafRejected inner task_type sieve) (IsRejectedIn context slot sieve) (leaf_rejected sieve)
-          (subst (λ t. ReadsTo depth line from to (IsLeafRejected inner t sieve)) (sym is) (reads inner depth))
+          (subst (λ t. ValueStands depth line from to (IsLeafRejected inner t sieve)) (sym is) (reads inner depth))
 
       pub primitive_conforms : (new : Value) → IsLeafOf (primitive type) new → ConformsInSlot context slot new
       primitive_conforms new put =
@@ -108,7 +109,7 @@ module _ (context : ReadContext) (slot : RowSlot) (root : IsRootSlot context slo
       (in_slot context slot root (λ slots nullable type. FitsSeen slots nullable type (Some json) (val_of v)) both.0, in_slot context slot root (λ slots nullable type. HoldsInSlot slots type v) both.1)
 
   -- what was filled stands there
-  pub filled_put : (depth now place end : ℕ) (v : Value) → now ≡ depth → FillsValue context slot slot.task now v place end → ReadsTo depth context.line place end (FitsSlotAs context slot (val_of v))
+  pub filled_put : (depth now place end : ℕ) (v : Value) → now ≡ depth → FillsValue context slot slot.task now v place end → ValueStands depth context.line place end (FitsSlotAs context slot (val_of v))
   filled_put depth now place end v same fills =
       reads_to_as depth context.line place end (IsFilledIn context slot slot.task v) (FitsSlotAs context slot (val_of v)) (λ json filled. (filled_there v json filled).0) (subst (λ n. FillsValue context slot slot.task n v place end) same fills).0
 
@@ -128,9 +129,9 @@ module _ (context : ReadContext) (slot : RowSlot) (root : IsRootSlot context slo
   leaf_value line depth place old new Nothing same takes = tt
   leaf_value line depth place old new Broken same takes = tt
   leaf_value line depth place old new (Put to) same takes =
-      subst (λ l. ReadsTo depth l place to (FitsSlotAs context slot (val_of new))) (sym same) (primitive_put context slot root leaf some type is line depth place to new takes)
+      subst (λ l. ValueStands depth l place to (FitsSlotAs context slot (val_of new))) (sym same) (primitive_put context slot root leaf some type is line depth place to new takes)
   leaf_value line depth place old new (Rejected to) same takes =
-      (subst (λ l. ReadsTo depth l place to (IsRejectedIn context slot slot.sieve)) (sym same) (primitive_rejected context slot root leaf some type is line depth place to slot.sieve takes.0), takes.1)
+      (subst (λ l. ValueStands depth l place to (IsRejectedIn context slot slot.sieve)) (sym same) (primitive_rejected context slot root leaf some type is line depth place to slot.sieve takes.0), takes.1)
 
   -- and what was put conforms
   pub leaf_goes_on : (line : List ℕ) (place : ℕ) (old new : Value) (taken : Taken) → TakesLeaf line (primitive type) slot.sieve old new place taken → taken ≢ Broken → GoesOn context slot old new

@@ -1,6 +1,7 @@
-pub use Rattle.edm_entities.specs.RowReading
 pub use Rattle.edm_row_plans.specs.Plans
 pub mod HeldSchema
 pub mod RowItems
+pub mod RowLayout
+pub mod RowReading
 pub mod RowsOfType
 pub mod private

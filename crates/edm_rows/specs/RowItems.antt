@@ -1,29 +1,18 @@
 -- A row that is an item of a document, where it stands (RFC 8259; OData JSON Format 4.01, section 13).
-use Rattle.std.specs.Prelude.{◌≡◌, ℕ, ◌<◌, ◌≤◌, List, length, drop, map, slice_get, true, Some}
+use Rattle.std.specs.Prelude.{◌≡◌, ℕ, List, map, slice_get, Some}
 use Rattle.json.specs.Json.{value}
-use Rattle.json.specs.Lex.{Place, between, lex, may_begin, punctuate}
 use Rattle.serde_json.specs.Data.{Data}
-use Rattle.serde_json.specs.Read.{converted, of_json}
-use Rattle.json_tokens.specs.declared.lexeme.Turn.TheVariants.{AfterValue}
-use Rattle.json_room.specs.Lexemes.{EndsHere, tokens_at}
 use Rattle.csdl_schema.specs.SchemaModel.{properties_at, type_name_at}
 use Rattle.edm_values.specs.SieveMeaning.{Rejects}
 use Rattle.edm_values.specs.Val.{FieldVal, Val, fields, present}
 use Rattle.edm_values.specs.declared.sieve.Sieve.{Sieve}
-use Rattle.edm_row_plans.specs.PassedNames.{Names}
+use Rattle.edm_rows.specs.RowReading.{Names}
 use Rattle.edm_entities.specs.Fits.{Fits}
 use Rattle.edm_entities.specs.Row.{Row, slots_for, value_of}
 use Rattle.edm_rows.specs.RowsOfType.{RowsOfType, names_unkept, row_held}
 use Rattle.edm_rows.specs.declared.type_rows.ItemReading.{ItemReading}
 use Rattle.edm_rows.specs.declared.type_rows.ItemReading.TheVariants.{LeftOut, Row as IsRow, Unread}
-
--- where a value may begin, a JSON value stands in a text from one offset to the other, if it may end there, nested no
--- deeper than that; P holds of it
-pub record ValueStands (depth : ℕ) (text : List ℕ) (from to : ℕ) (P : Data → Type 0) : Type 0 where
-  pub bounds : (from < to) × (to ≤ length text)
-  pub read : (p : Place) → may_begin p ≡ true → EndsHere text to
-      → (json : Data) × (converted of_json (value depth (punctuate p (lex between (drop from text))))
-      ≡ Some (json, tokens_at AfterValue text to)) × P json
+use Rattle.json_room.specs.ValueStands.{ValueStands}
 
 -- the JSON fits some record, and the row has what that has under each name that is not passed
 pub record IsJsonBut (json : Data) (Passed : Names) (row : Row) : Type 0 where

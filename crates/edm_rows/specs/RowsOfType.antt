@@ -9,7 +9,7 @@ use Rattle.edm_values.specs.Val.{FieldVal, Val, fields, present}
 use Rattle.edm_values.specs.declared.sieve.Sieve.{Sieve}
 use Rattle.edm_values.specs.declared.sieve.Sieve.TheVariants.{All}
 use Rattle.edm_values.specs.declared.value.Value.{Value}
-use Rattle.edm_row_plans.specs.PassedNames.{Names}
+use Rattle.edm_rows.specs.RowReading.{Names}
 use Rattle.edm_entities.specs.Fits.{Fits}
 use Rattle.edm_entities.specs.Row.{Row, slots_for}
 

@@ -7,7 +7,10 @@ pub mod KeptLeaves
 pub mod KeptRows
 pub mod KeptSoFar
 pub mod KnownTexts
+pub mod LayoutRows
 pub mod Members
-pub mod MembersSoFar
+pub mod Passed
 pub mod RowSlots
 pub mod RowTypes
+pub mod SeenSlots
+pub mod SlotsSoFar

@@ -1,12 +1,14 @@
 //! Values with parts that are kept: they are filled again where they are, with all that they hold.
-ghost use Rattle.std.specs.Prelude.{◌≡◌, ◌<◌, ◌≤◌, ℕ, length, true, IfSome};
+ghost use Rattle.std.specs.Prelude.{◌≡◌, ◌<◌, ◌≤◌, ◌*◌, ℕ, length, true, IfSome, IsTrue};
 ghost use Rattle.json.specs.Token.{null};
 ghost use Rattle.json_room.specs.Lexemes.{StandsTo};
 ghost use Rattle.edm_rows.specs.private.Filled.{FillsItems, FillsMembers, FillsValue};
-ghost use Rattle.edm_rows.specs.private.Filled.{IsFilledTo, IsFilledUpTo};
-ghost use Rattle.edm_rows.specs.private.Held.{IsSingle, ReadsTo};
+ghost use Rattle.edm_rows.specs.private.Filled.{FilledRead, FilledUpTo};
+ghost use Rattle.json_room.specs.ValueStands.{ValueStands};
+ghost use Rattle.edm_rows.specs.private.Held.{IsSingle};
 ghost use Rattle.edm_rows.specs.private.RowSlots.{IsSlotOf, IsTaskOf, IsTypeOf};
 ghost use Rattle.edm_rows.specs.private.Contexts.{FindsMember, IsContext};
+ghost use Rattle.edm_rows.specs.private.SeenSlots.{HaveRoom};
 
 use super::absent_slots::ends_object;
 use super::kept_leaf::{
@@ -16,17 +18,17 @@ use super::kept_leaf::{
 use super::kept_value::Progress;
 use super::known_texts::Cache;
 use super::members::{After, Found, after_member, next_member};
-use super::passed_any::any_end;
 use super::passed_value::ReadContext;
 use super::row_types::{RowSlot, RowType, Task};
 use edm_values::Value;
-use json_room::{RoomyLine, null_end, past_blanks};
+use json_room::{RoomyLine, any_value_end, null_end, past_blanks};
+use seen_slots::SeenSlots;
 use spare_values::{fit_count, list_in, record_in};
 
 /// Fills the value of a slot, or an item of it, that stands there; the offset after it.
 #[inline(always)]
 #[cycle(fill)]
-pub(crate) fn fill_value(
+pub(crate) fn fill_value<M: SeenSlots>(
     cache: &mut Cache,
     context: &ReadContext<'_>,
     slot: &RowSlot,
@@ -35,22 +37,23 @@ pub(crate) fn fill_value(
     value: &mut Value,
 ) -> Option<usize>
     requires context { IsContext context.now }
+    requires rooms { HaveRoom M.most context.now }
     requires slot { IsSlotOf context.now.plan.now.plans.items slot.now }
     requires task { IsTaskOf slot.now task }
     requires within { place ≤ length context.now.line }
     ensures filled { IfSome result (FillsValue context.now slot.now task cache.old.depth value.new place) }
     ensures depth { cache.new.depth ≡ cache.old.depth }
 {
-    match fill_sure(cache, context, slot, task, place, value) {
+    match fill_sure::<M>(cache, context, slot, task, place, value) {
         Some(end) => Some(end),
-        None => fill_other(cache, context, slot, task, place, value),
+        None => fill_other::<M>(cache, context, slot, task, place, value),
     }
 }
 
 /// The same of what most values are.
 #[inline(always)]
 #[cycle(fill)]
-fn fill_sure(
+fn fill_sure<M: SeenSlots>(
     cache: &mut Cache,
     context: &ReadContext<'_>,
     slot: &RowSlot,
@@ -59,6 +62,7 @@ fn fill_sure(
     value: &mut Value,
 ) -> Option<usize>
     requires context { IsContext context.now }
+    requires rooms { HaveRoom M.most context.now }
     requires slot { IsSlotOf context.now.plan.now.plans.items slot.now }
     requires task { IsTaskOf slot.now task }
     requires within { place ≤ length context.now.line }
@@ -70,8 +74,8 @@ fn fill_sure(
         Task::Number => put_end(take_digits(line, slot, place, value)),
         Task::Truth => put_end(take_truth(line, slot, place, value)),
         Task::Text => put_end(take_text(line, slot, place, value)),
-        Task::Record => fill_record(cache, context, slot, place, value),
-        Task::Items => fill_list(cache, context, slot, place, value),
+        Task::Record => fill_record::<M>(cache, context, slot, place, value),
+        Task::Items => fill_list::<M>(cache, context, slot, place, value),
         _ => None,
     }
 }
@@ -90,7 +94,7 @@ fn put_end(taken: Taken) -> Option<usize>
 /// The same of a value after white space, and of what is seldom.
 #[inline(never)]
 #[cycle(fill)]
-fn fill_other(
+fn fill_other<M: SeenSlots>(
     cache: &mut Cache,
     context: &ReadContext<'_>,
     slot: &RowSlot,
@@ -99,6 +103,7 @@ fn fill_other(
     value: &mut Value,
 ) -> Option<usize>
     requires context { IsContext context.now }
+    requires rooms { HaveRoom M.most context.now }
     requires slot { IsSlotOf context.now.plan.now.plans.items slot.now }
     requires task { IsTaskOf slot.now task }
     requires within { from ≤ length context.now.line }
@@ -109,7 +114,7 @@ fn fill_other(
     if place == from {
         return fill_seldom(cache, context, slot, task, place, value);
     }
-    match fill_sure(cache, context, slot, task, place, value) {
+    match fill_sure::<M>(cache, context, slot, task, place, value) {
         Some(end) => Some(end),
         None => fill_seldom(cache, context, slot, task, place, value),
     }
@@ -151,12 +156,12 @@ fn fill_unseen(
     value: &mut Value,
 ) -> Option<usize>
     requires { place ≤ length line.now }
-    ensures passed { IfSome result (λ to. ReadsTo cache.old.depth line.now place to (λ json. Unit {0})) }
+    ensures passed { IfSome result (λ to. ValueStands cache.old.depth line.now place to (λ json. Unit {0})) }
     ensures null { value.new ≡ Value.Null }
     ensures depth { cache.new.depth ≡ cache.old.depth }
 {
     cache.spares.put_null(slot.spare(), value);
-    any_end(line, place, cache.depth, &mut cache.decoded)
+    any_value_end(line, place, cache.depth, &mut cache.decoded)
 }
 
 /// Puts null for a single value, where it stands in the line and may be.
@@ -209,7 +214,7 @@ fn fill_leaf(
 /// Fills a record with the object that begins there; the offset after it.
 #[inline(always)]
 #[cycle(fill)]
-fn fill_record(
+fn fill_record<M: SeenSlots>(
     cache: &mut Cache,
     context: &ReadContext<'_>,
     slot: &RowSlot,
@@ -217,6 +222,7 @@ fn fill_record(
     value: &mut Value,
 ) -> Option<usize>
     requires context { IsContext context.now }
+    requires rooms { HaveRoom M.most context.now }
     requires slot { IsSlotOf context.now.plan.now.plans.items slot.now }
     requires item { slot.now.item ≡ Task.Record }
     requires within { place ≤ length context.now.line }
@@ -231,7 +237,7 @@ fn fill_record(
         return None;
     };
     cache.depth -= 1;
-    let end = fill_members(
+    let end = fill_members::<M>(
         cache,
         context,
         &context.types[slot.record],
@@ -245,7 +251,7 @@ fn fill_record(
 /// Fills a list with the array that begins there; the offset after it.
 #[inline(always)]
 #[cycle(fill)]
-fn fill_list(
+fn fill_list<M: SeenSlots>(
     cache: &mut Cache,
     context: &ReadContext<'_>,
     slot: &RowSlot,
@@ -253,6 +259,7 @@ fn fill_list(
     value: &mut Value,
 ) -> Option<usize>
     requires context { IsContext context.now }
+    requires rooms { HaveRoom M.most context.now }
     requires slot { IsSlotOf context.now.plan.now.plans.items slot.now }
     requires single { IsSingle slot.now.item }
     requires within { place ≤ length context.now.line }
@@ -267,7 +274,7 @@ fn fill_list(
         return None;
     };
     cache.depth -= 1;
-    let end = fill_items(cache, context, slot, place + 1, items);
+    let end = fill_items::<M>(cache, context, slot, place + 1, items);
     cache.depth += 1;
     end
 }
@@ -275,7 +282,7 @@ fn fill_list(
 /// Fills a list with an array's items, up to its bracket; the offset after that.
 #[inline(never)]
 #[cycle(fill)]
-fn fill_items(
+fn fill_items<M: SeenSlots>(
     cache: &mut Cache,
     context: &ReadContext<'_>,
     slot: &RowSlot,
@@ -283,6 +290,7 @@ fn fill_items(
     items: &mut Vec<Value>,
 ) -> Option<usize>
     requires context { IsContext context.now }
+    requires rooms { HaveRoom M.most context.now }
     requires slot { IsSlotOf context.now.plan.now.plans.items slot.now }
     requires single { IsSingle slot.now.item }
     requires within { from ≤ length context.now.line }
@@ -300,7 +308,8 @@ fn fill_items(
         if !cache.spares.has_item(slot.spare(), items, count) {
             return None;
         }
-        let Some(end) = fill_value(cache, context, slot, slot.item, place, &mut items[count]) else {
+        let Some(end) = fill_value::<M>(cache, context, slot, slot.item, place, &mut items[count])
+        else {
             return None;
         };
         count += 1;
@@ -319,7 +328,7 @@ fn fill_items(
 /// Fills a record's values with the members of an object, up to its brace; the offset after that.
 #[inline(never)]
 #[cycle(fill)]
-fn fill_members(
+pub(crate) fn fill_members<M: SeenSlots>(
     cache: &mut Cache,
     context: &ReadContext<'_>,
     plan: &RowType,
@@ -327,8 +336,10 @@ fn fill_members(
     values: &mut Vec<Value>,
 ) -> Option<usize>
     requires context { IsContext context.now }
+    requires rooms { HaveRoom M.most context.now }
     requires plan { IsTypeOf context.now.schema.now context.now.plan.now.expansion context.now.plan.now.plans.items
         plan.now }
+    requires room { length plan.now.slots.items ≤ M.most }
     requires within { from ≤ length context.now.line }
     ensures filled { IfSome result (FillsMembers context.now plan.now cache.old.depth values.new.items from) }
     ensures depth { cache.new.depth ≡ cache.old.depth }
@@ -338,34 +349,29 @@ fn fill_members(
     }
     let line = &context.line;
     let first = past_blanks(line, from);
+    let mut so_far = Progress {
+        place: first,
+        seen: M::none(),
+        order: plan.order,
+    };
     if line.byte(first) == b'}' {
-        return if ends_object(plan, 0, values.as_mut_slice()) {
+        return if ends_object(plan, so_far.seen, values.as_mut_slice()) {
             Some(first + 1)
         } else {
             None
         };
     }
-    let mut so_far = Progress {
-        place: first,
-        seen: 0,
-        order: plan.order,
-    };
     'members: loop {
         let Some(found) = next_member(cache, context, plan, so_far.order, so_far.place) else {
             return None;
         };
-        let Some(read) = fill_found(cache, context, plan, found, so_far, values) else {
+        if !fill_found(cache, context, plan, found, &mut so_far, values) {
             return None;
-        };
-        match after_member(line, read.place) {
-            Some(After::Comma(next)) => {
-                so_far = Progress {
-                    place: next,
-                    ..read
-                };
-            }
+        }
+        match after_member(line, so_far.place) {
+            Some(After::Comma(next)) => so_far.place = next,
             Some(After::Brace(next)) => {
-                return if ends_object(plan, read.seen, values.as_mut_slice()) {
+                return if ends_object(plan, so_far.seen, values.as_mut_slice()) {
                     Some(next)
                 } else {
                     None
@@ -376,36 +382,39 @@ fn fill_members(
     }
 }
 
-/// Fills the slot of the member that was found, if it has one.
+/// Fills the slot of the member that was found, if it has one; false where its value was not read.
 #[inline(always)]
 #[cycle(fill)]
-fn fill_found(
+fn fill_found<M: SeenSlots>(
     cache: &mut Cache,
     context: &ReadContext<'_>,
     plan: &RowType,
     found: Found<'_>,
-    so_far: Progress,
+    so_far: &mut Progress<M>,
     values: &mut Vec<Value>,
-) -> Option<Progress>
+) -> bool
     requires context { IsContext context.now }
+    requires rooms { HaveRoom M.most context.now }
     requires plan { IsTypeOf context.now.schema.now context.now.plan.now.expansion context.now.plan.now.plans.items
         plan.now }
-    requires found { FindsMember context.now plan.now cache.old.depth so_far.place found }
-    requires order { so_far.order < 256 }
+    requires room { length plan.now.slots.items ≤ M.most }
+    requires found { FindsMember context.now plan.now cache.old.depth so_far.old.place found }
+    requires order { so_far.old.order < 1024 }
     requires long { length values.old.items ≡ length plan.now.slots.items }
-    ensures filled { (from : ℕ) → IsFilledUpTo context.now plan.now cache.old.depth from values.old.items so_far
-        → IfSome result (IsFilledTo context.now plan.now cache.old.depth from values.new.items) }
-    ensures further { IfSome result (λ read. (so_far.place < read.place) × (read.order < 256)) }
+    ensures filled { (from : ℕ)
+        → FilledUpTo context.now plan.now cache.old.depth from so_far.old.place (M.bits so_far.old.seen)
+        values.old.items → IsTrue result
+        → FilledRead context.now plan.now cache.old.depth from so_far.new.place (M.bits so_far.new.seen)
+        values.new.items }
+    ensures further { IsTrue result → (so_far.old.place < so_far.new.place) × (so_far.new.order < 1024) }
     ensures long { length values.new.items ≡ length values.old.items }
     ensures depth { cache.new.depth ≡ cache.old.depth }
 {
     let Some(slot) = found.slot else {
-        return Some(Progress {
-            place: found.place,
-            ..so_far
-        });
+        so_far.place = found.place;
+        return true;
     };
-    match fill_value(
+    match fill_value::<M>(
         cache,
         context,
         slot,
@@ -413,11 +422,10 @@ fn fill_found(
         found.place,
         &mut values[slot.index],
     ) {
-        Some(end) => Some(Progress {
-            place: end,
-            seen: so_far.seen | slot.bit,
-            order: slot.order,
-        }),
-        None => None,
+        Some(end) => {
+            so_far.read_slot(slot, end);
+            true
+        }
+        None => false,
     }
 }

@@ -1,9 +1,10 @@
 //! The members of a row itself, of which those that are kept become values.
-ghost use Rattle.std.specs.Prelude.{◌≡◌, ◌≢◌, ◌<◌, ◌≤◌, ℕ, length, bit_and, bit_or, true, false, List, IfSome};
+ghost use Rattle.std.specs.Prelude.{◌≡◌, ◌≢◌, ◌<◌, ◌≤◌, ◌*◌, ◌^◌, ℕ, length, bit_or, true, false, List, IsTrue};
 ghost use Rattle.edm_rows.specs.private.KeptRows.{GoesOn, IsRootSlot, IsRootType, RowConforms};
 ghost use Rattle.edm_rows.specs.private.KeptRows.{TakesRow, TakesValue, root_properties, root_slots};
-ghost use Rattle.edm_rows.specs.private.KeptSoFar.{IsReadTo, IsUpTo, StepsFrom, StepsTo};
+ghost use Rattle.edm_rows.specs.private.KeptSoFar.{KeptRead, KeptUpTo, StepsFrom, StepsTo};
 ghost use Rattle.edm_rows.specs.private.RowSlots.{HasPrimitive};
+ghost use Rattle.edm_rows.specs.private.SeenSlots.{HasMark, HaveRoom};
 ghost use Rattle.edm_rows.specs.private.Contexts.{FindsMember, IsContext, PassesValue};
 
 use super::absent_slots::ends_object;
@@ -15,10 +16,11 @@ use super::passed_value::{ReadContext, value_end};
 use super::row_types::{RowSlot, RowType, Task};
 use edm_values::Value;
 use json_room::{RoomyLine, past_blanks};
+use seen_slots::SeenSlots;
 
 /// Takes the value of a slot that stands there, unless it is rejected.
 #[inline(always)]
-fn take_value(
+fn take_value<M: SeenSlots>(
     cache: &mut Cache,
     context: &ReadContext<'_>,
     slot: &RowSlot,
@@ -26,6 +28,7 @@ fn take_value(
     value: &mut Value,
 ) -> Taken
     requires context { IsContext context.now }
+    requires rooms { HaveRoom M.most context.now }
     requires slot { IsRootSlot context.now slot.now }
     requires within { place ≤ length context.now.line }
     requires depth { cache.old.depth ≡ context.now.depth }
@@ -35,7 +38,7 @@ fn take_value(
 {
     let sure = take_sure(&context.line, slot, place, value);
     if let Taken::Nothing = sure {
-        return take_other(cache, context, slot, place, value);
+        return take_other::<M>(cache, context, slot, place, value);
     }
     sure
 }
@@ -65,7 +68,7 @@ fn take_sure(line: &RoomyLine<'_>, slot: &RowSlot, place: usize, value: &mut Val
 
 /// The same of a value after white space, and of what is seldom.
 #[inline(never)]
-fn take_other(
+fn take_other<M: SeenSlots>(
     cache: &mut Cache,
     context: &ReadContext<'_>,
     slot: &RowSlot,
@@ -73,6 +76,7 @@ fn take_other(
     value: &mut Value,
 ) -> Taken
     requires context { IsContext context.now }
+    requires rooms { HaveRoom M.most context.now }
     requires slot { IsRootSlot context.now slot.now }
     requires within { from ≤ length context.now.line }
     requires depth { cache.old.depth ≡ context.now.depth }
@@ -82,18 +86,18 @@ fn take_other(
 {
     let place = past_blanks(&context.line, from);
     if place == from {
-        return take_seldom(cache, context, slot, place, value);
+        return take_seldom::<M>(cache, context, slot, place, value);
     }
     let sure = take_sure(&context.line, slot, place, value);
     if let Taken::Nothing = sure {
-        return take_seldom(cache, context, slot, place, value);
+        return take_seldom::<M>(cache, context, slot, place, value);
     }
     sure
 }
 
 /// The same of null, of a value with parts, and of one that is written as few are.
 #[inline(never)]
-fn take_seldom(
+fn take_seldom<M: SeenSlots>(
     cache: &mut Cache,
     context: &ReadContext<'_>,
     slot: &RowSlot,
@@ -101,6 +105,7 @@ fn take_seldom(
     value: &mut Value,
 ) -> Taken
     requires context { IsContext context.now }
+    requires rooms { HaveRoom M.most context.now }
     requires slot { IsRootSlot context.now slot.now }
     requires within { place ≤ length context.now.line }
     requires depth { cache.old.depth ≡ context.now.depth }
@@ -108,27 +113,42 @@ fn take_seldom(
     ensures goes_on { result ≢ Taken.Broken → GoesOn context.now slot.now value.old value.new }
     ensures depth { cache.new.depth ≡ context.now.depth }
 {
-    match fill_value(cache, context, slot, slot.task, place, value) {
+    match fill_value::<M>(cache, context, slot, slot.task, place, value) {
         Some(end) => Taken::Put(end),
         None => Taken::Broken,
     }
 }
 
-/// How far the members of a row were read.
-#[derive(Clone, Copy, Drop)]
-pub(crate) struct Progress {
+/// How far the members of an object were read.
+#[derive(Drop)]
+pub(crate) struct Progress<M: SeenSlots> {
     pub(crate) place: usize,
-    pub(crate) seen: u64,
+    pub(crate) seen: M,
     pub(crate) order: usize,
+}
+
+impl<M: SeenSlots> Progress<M> {
+    /// The member of a slot was read, up to where its value ends.
+    #[inline(always)]
+    pub(crate) fn read_slot(&mut self, slot: &RowSlot, end: usize)
+        requires { HasMark M.most slot.now }
+        ensures place { self.new.place ≡ end }
+        ensures seen { M.bits self.new.seen ≡ bit_or (M.bits self.old.seen) (2 ^ slot.now.index) }
+        ensures order { self.new.order ≡ slot.now.order }
+    {
+        self.place = end;
+        self.seen.mark(slot.index, slot.bit);
+        self.order = slot.order;
+    }
 }
 
 /// What became of a member of a row.
 #[derive(Clone, Copy, Drop)]
 pub(crate) enum Step {
     /// It was read.
-    Read(Progress),
+    Read,
     /// It was read, and its slot's sieve rejects its value.
-    Rejected(Progress),
+    Rejected,
     /// It was not read.
     Nothing,
     /// It was not read, and what stands in its slot is half written.
@@ -137,7 +157,7 @@ pub(crate) enum Step {
 
 /// Takes the members of a row and its brace, unless one of them is rejected.
 #[inline(always)]
-pub(crate) fn take_members(
+pub(crate) fn take_members<M: SeenSlots>(
     cache: &mut Cache,
     context: &ReadContext<'_>,
     plan: &RowType,
@@ -145,7 +165,9 @@ pub(crate) fn take_members(
     values: &mut [Value],
 ) -> Taken
     requires context { IsContext context.now }
+    requires rooms { HaveRoom M.most context.now }
     requires plan { IsRootType context.now plan.now }
+    requires room { length plan.now.slots.items ≤ M.most }
     requires within { from ≤ length context.now.line }
     requires depth { cache.old.depth ≡ context.now.depth }
     requires conforms { RowConforms (root_slots context.now) (root_properties context.now) values.old }
@@ -155,28 +177,23 @@ pub(crate) fn take_members(
 {
     let mut so_far = Progress {
         place: from,
-        seen: 0,
+        seen: M::none(),
         order: plan.order,
     };
     'members: loop {
         let Some(found) = next_member(cache, context, plan, so_far.order, so_far.place) else {
-            return take_empty(context, plan, from, values);
+            return take_empty::<M>(context, plan, from, values);
         };
-        let read = match take_found(cache, context, plan, found, so_far, values) {
-            Step::Read(read) => read,
-            Step::Rejected(read) => return pass_rest(cache, context, plan, read, values),
+        match take_found(cache, context, plan, found, &mut so_far, values) {
+            Step::Read => {}
+            Step::Rejected => return pass_rest(cache, context, plan, so_far, values),
             Step::Nothing => return Taken::Nothing,
             Step::Broken => return Taken::Broken,
-        };
-        match after_member(&context.line, read.place) {
-            Some(After::Comma(next)) => {
-                so_far = Progress {
-                    place: next,
-                    ..read
-                };
-            }
+        }
+        match after_member(&context.line, so_far.place) {
+            Some(After::Comma(next)) => so_far.place = next,
             Some(After::Brace(next)) => {
-                if !ends_object(plan, read.seen, values) {
+                if !ends_object(plan, so_far.seen, values) {
                     return Taken::Nothing;
                 }
                 return Taken::Put(next);
@@ -188,8 +205,15 @@ pub(crate) fn take_members(
 
 /// Takes the brace of a row without members.
 #[inline(never)]
-fn take_empty(context: &ReadContext<'_>, plan: &RowType, from: usize, values: &mut [Value]) -> Taken
+fn take_empty<M: SeenSlots>(
+    context: &ReadContext<'_>,
+    plan: &RowType,
+    from: usize,
+    values: &mut [Value],
+) -> Taken
     requires plan { IsRootType context.now plan.now }
+    requires rooms { HaveRoom M.most context.now }
+    requires room { length plan.now.slots.items ≤ M.most }
     requires within { from ≤ length context.now.line }
     requires conforms { RowConforms (root_slots context.now) (root_properties context.now) values.old }
     ensures read { TakesRow context.now plan.now values.new from result }
@@ -200,7 +224,7 @@ fn take_empty(context: &ReadContext<'_>, plan: &RowType, from: usize, values: &m
     if line.byte(brace) != b'}' {
         return Taken::Nothing;
     }
-    if !ends_object(plan, 0, values) {
+    if !ends_object(plan, M::none(), values) {
         return Taken::Nothing;
     }
     Taken::Put(brace + 1)
@@ -208,50 +232,51 @@ fn take_empty(context: &ReadContext<'_>, plan: &RowType, from: usize, values: &m
 
 /// Takes the value of the member that was found.
 #[inline(always)]
-fn take_found(
+fn take_found<M: SeenSlots>(
     cache: &mut Cache,
     context: &ReadContext<'_>,
     plan: &RowType,
     found: Found<'_>,
-    so_far: Progress,
+    so_far: &mut Progress<M>,
     values: &mut [Value],
 ) -> Step
     requires context { IsContext context.now }
+    requires rooms { HaveRoom M.most context.now }
     requires plan { IsRootType context.now plan.now }
-    requires found { FindsMember context.now plan.now context.now.depth so_far.place found }
-    requires order { so_far.order < 256 }
+    requires room { length plan.now.slots.items ≤ M.most }
+    requires found { FindsMember context.now plan.now context.now.depth so_far.old.place found }
+    requires order { so_far.old.order < 1024 }
     requires depth { cache.old.depth ≡ context.now.depth }
     requires long { length values.old ≡ length (root_properties context.now) }
-    ensures read { (from : ℕ) → IsUpTo context.now plan.now false from values.old so_far
-        → StepsTo context.now plan.now from values.new result }
-    ensures further { StepsFrom so_far.place result }
+    ensures read { (from : ℕ)
+        → KeptUpTo context.now plan.now.slots.items from so_far.old.place (M.bits so_far.old.seen) false
+        values.old
+        → StepsTo context.now plan.now from so_far.new.place (M.bits so_far.new.seen) values.new result }
+    ensures further { StepsFrom so_far.old.place so_far.new.place so_far.new.order result }
     ensures conforms { RowConforms (root_slots context.now) (root_properties context.now) values.old
         → result ≢ Step.Broken → RowConforms (root_slots context.now) (root_properties context.now) values.new }
     ensures depth { cache.new.depth ≡ context.now.depth }
 {
     let Some(slot) = found.slot else {
-        return Step::Read(Progress {
-            place: found.place,
-            ..so_far
-        });
+        so_far.place = found.place;
+        return Step::Read;
     };
     if !slot.is_kept {
-        return match pass_found(cache, context, slot, found.place, so_far.seen) {
-            Some(read) => Step::Read(read),
-            None => Step::Nothing,
+        return if pass_found(cache, context, slot, found.place, so_far) {
+            Step::Read
+        } else {
+            Step::Nothing
         };
     }
-    match take_value(cache, context, slot, found.place, &mut values[slot.index]) {
-        Taken::Put(end) => Step::Read(Progress {
-            place: end,
-            seen: so_far.seen | slot.bit,
-            order: slot.order,
-        }),
-        Taken::Rejected(end) => Step::Rejected(Progress {
-            place: end,
-            seen: so_far.seen | slot.bit,
-            order: slot.order,
-        }),
+    match take_value::<M>(cache, context, slot, found.place, &mut values[slot.index]) {
+        Taken::Put(end) => {
+            so_far.read_slot(slot, end);
+            Step::Read
+        }
+        Taken::Rejected(end) => {
+            so_far.read_slot(slot, end);
+            Step::Rejected
+        }
         Taken::Nothing => Step::Nothing,
         Taken::Broken => Step::Broken,
     }
@@ -259,112 +284,110 @@ fn take_found(
 
 /// Passes the members of a row after one that is rejected, and the row's brace.
 #[inline(always)]
-fn pass_rest(
+fn pass_rest<M: SeenSlots>(
     cache: &mut Cache,
     context: &ReadContext<'_>,
     plan: &RowType,
-    rejected: Progress,
+    rejected: Progress<M>,
     values: &mut [Value],
 ) -> Taken
     requires context { IsContext context.now }
+    requires rooms { HaveRoom M.most context.now }
     requires plan { IsRootType context.now plan.now }
+    requires room { length plan.now.slots.items ≤ M.most }
     requires within { rejected.place ≤ length context.now.line }
-    requires order { rejected.order < 256 }
+    requires order { rejected.order < 1024 }
     requires depth { cache.old.depth ≡ context.now.depth }
     requires conforms { RowConforms (root_slots context.now) (root_properties context.now) values.old }
-    ensures read { (from : ℕ) → IsReadTo context.now plan.now true from values.old rejected
+    ensures read { (from : ℕ)
+        → KeptRead context.now plan.now.slots.items from rejected.place
+        (M.bits rejected.seen) true values.old
         → TakesRow context.now plan.now values.new from result }
     ensures conforms { RowConforms (root_slots context.now) (root_properties context.now) values.new }
 {
-    let mut read = rejected;
+    let mut so_far = rejected;
     'members: loop {
-        let place = match after_member(&context.line, read.place) {
-            Some(After::Comma(next)) => next,
+        match after_member(&context.line, so_far.place) {
+            Some(After::Comma(next)) => so_far.place = next,
             Some(After::Brace(next)) => {
-                if !ends_object(plan, read.seen, values) {
+                if !ends_object(plan, so_far.seen, values) {
                     return Taken::Nothing;
                 }
                 return Taken::Rejected(next);
             }
             None => return Taken::Nothing,
-        };
-        let Some(found) = next_member(cache, context, plan, read.order, place) else {
+        }
+        let Some(found) = next_member(cache, context, plan, so_far.order, so_far.place) else {
             return Taken::Nothing;
         };
-        let Some(next) = pass_next(cache, context, plan, found, Progress { place, ..read }) else {
+        if !pass_next(cache, context, plan, found, &mut so_far) {
             return Taken::Nothing;
-        };
-        read = next;
+        }
     }
 }
 
-/// Passes the value of the member that was found.
+/// Passes the value of the member that was found; false where it was not read, or its slot was seen before.
 #[inline(always)]
-fn pass_next(
+fn pass_next<M: SeenSlots>(
     cache: &mut Cache,
     context: &ReadContext<'_>,
     plan: &RowType,
     found: Found<'_>,
-    so_far: Progress,
-) -> Option<Progress>
+    so_far: &mut Progress<M>,
+) -> bool
     requires context { IsContext context.now }
+    requires rooms { HaveRoom M.most context.now }
     requires plan { IsRootType context.now plan.now }
-    requires found { FindsMember context.now plan.now context.now.depth so_far.place found }
-    requires order { so_far.order < 256 }
+    requires room { length plan.now.slots.items ≤ M.most }
+    requires found { FindsMember context.now plan.now context.now.depth so_far.old.place found }
+    requires order { so_far.old.order < 1024 }
     requires depth { cache.old.depth ≡ context.now.depth }
     ensures read { (from : ℕ) (values : List Value) → length values ≡ length (root_properties context.now)
-        → IsUpTo context.now plan.now true from values so_far
-        → IfSome result (IsReadTo context.now plan.now true from values) }
-    ensures further { IfSome result (λ read. (so_far.place < read.place) × (read.place ≤ length context.now.line)
-        × (read.order < 256)) }
+        → KeptUpTo context.now plan.now.slots.items from so_far.old.place (M.bits so_far.old.seen) true values
+        → IsTrue result
+        → KeptRead context.now plan.now.slots.items from so_far.new.place (M.bits so_far.new.seen) true values }
+    ensures further { IsTrue result → (so_far.old.place < so_far.new.place)
+        × (so_far.new.place ≤ length context.now.line) × (so_far.new.order < 1024) }
     ensures depth { cache.new.depth ≡ context.now.depth }
 {
     let Some(slot) = found.slot else {
-        return Some(Progress {
-            place: found.place,
-            ..so_far
-        });
+        so_far.place = found.place;
+        return true;
     };
-    if comes_again(slot, so_far.seen) {
-        return None;
+    if so_far.seen.has(slot.index, slot.bit) {
+        return false;
     }
-    pass_found(cache, context, slot, found.place, so_far.seen)
+    pass_found(cache, context, slot, found.place, so_far)
 }
 
-/// Whether the slot was seen before.
+/// Passes the value of a slot, which is held to its type; false where it was not read.
 #[inline(always)]
-fn comes_again(slot: &RowSlot, seen: u64) -> bool
-    ensures { result ≡ false → bit_and seen slot.now.bit ≡ 0 }
-{
-    seen & slot.bit != 0
-}
-
-/// Passes the value of a slot, which is held to its type.
-#[inline(always)]
-fn pass_found(
+fn pass_found<M: SeenSlots>(
     cache: &mut Cache,
     context: &ReadContext<'_>,
     slot: &RowSlot,
     place: usize,
-    seen: u64,
-) -> Option<Progress>
+    so_far: &mut Progress<M>,
+) -> bool
     requires context { IsContext context.now }
+    requires rooms { HaveRoom M.most context.now }
     requires slot { IsRootSlot context.now slot.now }
+    requires mark { HasMark M.most slot.now }
     requires within { place ≤ length context.now.line }
     requires depth { cache.old.depth ≡ context.now.depth }
-    ensures passed { IfSome result
-        (λ read. PassesValue context.now slot.now slot.now.task context.now.depth place read.place) }
-    ensures further { IfSome result (λ read. place < read.place) }
-    ensures seen { IfSome result (λ read. read.seen ≡ bit_or seen slot.now.bit) }
-    ensures order { IfSome result (λ read. read.order < 256) }
+    ensures passed { IsTrue result
+        → PassesValue context.now slot.now slot.now.task context.now.depth place so_far.new.place }
+    ensures further { IsTrue result → place < so_far.new.place }
+    ensures seen { IsTrue result
+        → M.bits so_far.new.seen ≡ bit_or (M.bits so_far.old.seen) (2 ^ slot.now.index) }
+    ensures order { IsTrue result → so_far.new.order < 1024 }
     ensures depth { cache.new.depth ≡ context.now.depth }
 {
-    match value_end(cache, context, slot, slot.task, place) {
-        Some(end) => Some(Progress {
-            place: end,
-            seen: seen | slot.bit,
-            order: slot.order,
-        }),
-        None => None,
+    match value_end::<M>(cache, context, slot, slot.task, place) {
+        Some(end) => {
+            so_far.read_slot(slot, end);
+            true
+        }
+        None => false,
     }
 }

@@ -3,8 +3,8 @@ ghost use Rattle.std.specs.Prelude.{◌≡◌, ℕ, ◌<◌, ◌≤◌, length, 
 ghost use Rattle.csdl_schema.specs.ExprType.{enumeration, single};
 ghost use Rattle.csdl_schema.specs.SchemaModel.{SchemaModel, slots_of};
 ghost use Rattle.json.specs.Written.{PlainBetween};
-ghost use Rattle.edm_entities.specs.private.Passed.{FitsSomeHowever};
-ghost use Rattle.edm_rows.specs.private.Held.{ReadsTo};
+ghost use Rattle.edm_rows.specs.private.Passed.{FitsSomeHowever};
+ghost use Rattle.json_room.specs.ValueStands.{ValueStands};
 ghost use Rattle.edm_rows.specs.private.KnownTexts.{AreKnown, IsKnown};
 ghost use Rattle.edm_rows.specs.private.RowSlots.{name_at};
 
@@ -28,7 +28,7 @@ pub(crate) struct Cache {
     pub(crate) alloc: Global,
     pub(crate) decoded: DecodeBuffer,
     /// After each member, the slot that came next the last time.
-    pub(crate) next: [u8; PLACES],
+    pub(crate) next: [u16; PLACES],
     pub(crate) noted: Option<Noted>,
     /// What values with parts are filled again from.
     pub(crate) spares: Spares,
@@ -138,7 +138,7 @@ impl KnownTexts {
     ) -> Option<usize>
         requires { place ≤ length line.now }
         ensures { (schema : SchemaModel) (depth : ℕ) → AreKnown schema self.now → IfSome result (λ to.
-            ReadsTo depth line.now place to
+            ValueStands depth line.now place to
             (FitsSomeHowever (slots_of schema) (single (enumeration (name_at schema id))))) }
     {
         let bytes = line.bytes();

@@ -8,14 +8,16 @@ mod kept_leaf;
 mod kept_tree;
 mod kept_value;
 mod known_texts;
+mod layout_reader;
 mod literals;
 mod members;
-mod passed_any;
 mod passed_value;
+mod row_layout;
 mod row_types;
 mod slot_marks;
 mod type_rows;
 
 pub use held_schema::HeldSchema;
-pub use passed_any::any_value_end;
+pub use layout_reader::LayoutReader;
+pub use row_layout::RowLayout;
 pub use type_rows::{ItemReading, Reading, TypeRows};

@@ -1,16 +1,17 @@
 //! The members of an object, and the slots that their names have.
-ghost use Rattle.std.specs.Prelude.{◌≡◌, ◌<◌, ◌≤◌, length, IfSome};
+ghost use Rattle.std.specs.Prelude.{◌≡◌, ◌<◌, ◌≤◌, ◌*◌, length, IfSome};
 ghost use Rattle.csdl_schema.specs.SchemaModel.{properties_at};
 ghost use Rattle.edm_rows.specs.private.Members.{EndsMember, FindsName, IsSlotOfName, NextMember};
 ghost use Rattle.edm_rows.specs.private.RowSlots.{IsTypeOf};
 ghost use Rattle.edm_rows.specs.private.Contexts.{FindsMember, IsContext, PassesMembers};
+ghost use Rattle.edm_rows.specs.private.SeenSlots.{HaveRoom};
 
 use super::known_texts::Cache;
-use super::passed_any::any_end;
 use super::passed_value::{ReadContext, value_end};
-use super::row_types::{RowSlot, RowType};
+use super::row_types::{FEW_SLOTS, RowSlot, RowType};
 use csdl_schema::Schema;
-use json_room::{DecodeBuffer, RoomyLine, any_text_at, past_blanks};
+use json_room::{DecodeBuffer, RoomyLine, any_text_at, any_value_end, past_blanks};
+use seen_slots::SeenSlots;
 
 /// A member: its slot and the offset of its value; or one without a slot, and the offset after its value.
 #[derive(Clone, Copy, Drop)]
@@ -56,18 +57,18 @@ fn after_blanks(line: &RoomyLine<'_>, end: usize) -> Option<After>
 /// The slot that came next the last time.
 #[inline(always)]
 fn likely_slot(cache: &Cache, order: usize) -> usize
-    requires { order < 256 }
+    requires { order < 1024 }
 {
     cache.next[order] as usize
 }
 
 /// Notes that the slot that was found comes next there.
 fn note_next(cache: &mut Cache, order: usize)
-    requires { order < 256 }
+    requires { order < 1024 }
     ensures depth { cache.new.depth ≡ cache.old.depth }
     ensures slot { cache.new.slot ≡ cache.old.slot }
 {
-    if let Ok(slot) = u8::try_from(cache.slot) {
+    if let Ok(slot) = u16::try_from(cache.slot) {
         cache.next[order] = slot;
     }
 }
@@ -84,7 +85,7 @@ pub(crate) fn next_member<'w>(
     requires context { IsContext context.now }
     requires plan { IsTypeOf context.now.schema.now context.now.plan.now.expansion context.now.plan.now.plans.items
         plan.now }
-    requires order { order < 256 }
+    requires order { order < 1024 }
     requires within { place ≤ length context.now.line }
     ensures found { IfSome result (FindsMember context.now plan.now cache.old.depth place) }
     ensures depth { cache.new.depth ≡ cache.old.depth }
@@ -126,7 +127,7 @@ fn other_member(
     requires context { IsContext context.now }
     requires plan { IsTypeOf context.now.schema.now context.now.plan.now.expansion context.now.plan.now.plans.items
         plan.now }
-    requires order { order < 256 }
+    requires order { order < 1024 }
     requires within { from ≤ length context.now.line }
     ensures found { IfSome result (NextMember cache.old.depth context.now.line
         (properties_at context.now.schema.now plan.now.type_id) cache.new.slot from) }
@@ -148,7 +149,7 @@ fn other_member(
         note_next(cache, order);
         return Some(value);
     }
-    any_end(
+    any_value_end(
         line,
         past_blanks(line, value),
         cache.depth,
@@ -171,10 +172,12 @@ fn named_member(
     ensures depth { cache.new.depth ≡ cache.old.depth }
 {
     let line = &context.line;
-    for slot in 0..plan.slots.len() {
-        if let Some(end) = plan.slots[slot].key.end(line, place) {
-            cache.slot = slot;
-            return Some(end);
+    if plan.slots.len() <= FEW_SLOTS {
+        for slot in 0..plan.slots.len() {
+            if let Some(end) = plan.slots[slot].key.end(line, place) {
+                cache.slot = slot;
+                return Some(end);
+            }
         }
     }
     let Some((slot, end)) = slot_at(&mut cache.decoded, context.schema, plan, line, place) else {
@@ -221,29 +224,31 @@ fn slot_of(schema: &Schema, plan: &RowType, name: &str) -> usize
 /// The offset after the members of an object and its brace.
 #[inline(never)]
 #[cycle(pass)]
-pub(crate) fn pass_members(
+pub(crate) fn pass_members<M: SeenSlots>(
     cache: &mut Cache,
     context: &ReadContext<'_>,
     plan: &RowType,
     from: usize,
 ) -> Option<usize>
     requires context { IsContext context.now }
+    requires rooms { HaveRoom M.most context.now }
     requires plan { IsTypeOf context.now.schema.now context.now.plan.now.expansion context.now.plan.now.plans.items
         plan.now }
+    requires room { length plan.now.slots.items ≤ M.most }
     requires within { from ≤ length context.now.line }
     ensures passed { IfSome result (PassesMembers context.now plan.now cache.old.depth from) }
     ensures depth { cache.new.depth ≡ cache.old.depth }
 {
     let line = &context.line;
     let mut place = past_blanks(line, from);
+    let mut seen = M::none();
     if line.byte(place) == b'}' {
-        return if plan.optional == plan.all {
+        return if seen.are_all_but(&plan.optional, &plan.all) {
             Some(place + 1)
         } else {
             None
         };
     }
-    let mut seen = 0_u64;
     let mut order = plan.order;
     'members: loop {
         let Some(found) = next_member(cache, context, plan, order, place) else {
@@ -251,10 +256,10 @@ pub(crate) fn pass_members(
         };
         match found.slot {
             Some(slot) => {
-                let Some(end) = value_end(cache, context, slot, slot.task, found.place) else {
+                let Some(end) = value_end::<M>(cache, context, slot, slot.task, found.place) else {
                     return None;
                 };
-                seen |= slot.bit;
+                seen.mark(slot.index, slot.bit);
                 order = slot.order;
                 place = end;
             }
@@ -263,7 +268,7 @@ pub(crate) fn pass_members(
         match after_member(line, place) {
             Some(After::Comma(next)) => place = next,
             Some(After::Brace(next)) => {
-                return if seen | plan.optional == plan.all {
+                return if seen.are_all_but(&plan.optional, &plan.all) {
                     Some(next)
                 } else {
                     None

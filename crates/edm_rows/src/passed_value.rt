@@ -4,24 +4,25 @@ ghost use Rattle.json.specs.Token.{number};
 ghost use Rattle.csdl_schema.specs.ExprType.{SingleType, enumeration, primitive, single};
 ghost use Rattle.csdl_schema.specs.SchemaModel.{Slots, slots_of};
 ghost use Rattle.json_room.specs.Lexemes.{StandsTo};
-ghost use Rattle.edm_entities.specs.private.Passed.{FitsSome, FitsSomeHowever};
-ghost use Rattle.edm_rows.specs.private.Held.{IsIntegerText, IsSingle, ReadsTo};
+ghost use Rattle.edm_rows.specs.private.Passed.{FitsSome, FitsSomeHowever};
+ghost use Rattle.json_room.specs.ValueStands.{ValueStands};
+ghost use Rattle.edm_rows.specs.private.Held.{IsIntegerText, IsSingle};
 ghost use Rattle.edm_rows.specs.private.RowSlots.{IsSlotOf, IsTaskOf, name_at};
 ghost use Rattle.edm_rows.specs.private.Contexts.{IsContext, PassesItems, PassesValue};
+ghost use Rattle.edm_rows.specs.private.SeenSlots.{HaveRoom};
 
 use super::known_texts::{Cache, KnownTexts, Noted};
 use super::literals::{literal_at, member_at};
 use super::members::pass_members;
-use super::passed_any::{any_end, any_number_end};
 use super::row_types::{RowSlot, RowType, Task};
 use csdl_schema::Schema;
 use edm_row_plans::RowPlan;
 use json_room::{
-    DecodeBuffer, RoomyLine, digits_up_to, escaped_text_end, null_end, number_at, past_blanks,
-    text_end, truth_end,
+    DecodeBuffer, RoomyLine, any_number_end, any_value_end, digits_up_to, escaped_text_end,
+    null_end, number_at, number_of_text, past_blanks, text_end, truth_end,
 };
-use json_tokens::number_of_text;
 use room_literals::{day_end, guid_end, moment_end};
+use seen_slots::SeenSlots;
 
 /// What a walk over a line looks at.
 #[derive(Drop)]
@@ -38,7 +39,7 @@ pub(crate) struct ReadContext<'w> {
 /// The offset after the value of a slot, or an item of it, that stands there.
 #[inline(always)]
 #[cycle(pass)]
-pub(crate) fn value_end(
+pub(crate) fn value_end<M: SeenSlots>(
     cache: &mut Cache,
     context: &ReadContext<'_>,
     slot: &RowSlot,
@@ -46,22 +47,23 @@ pub(crate) fn value_end(
     place: usize,
 ) -> Option<usize>
     requires context { IsContext context.now }
+    requires rooms { HaveRoom M.most context.now }
     requires slot { IsSlotOf context.now.plan.now.plans.items slot.now }
     requires task { IsTaskOf slot.now task }
     requires within { place ≤ length context.now.line }
     ensures passed { IfSome result (PassesValue context.now slot.now task cache.old.depth place) }
     ensures depth { cache.new.depth ≡ cache.old.depth }
 {
-    match sure_end(cache, context, slot, task, place) {
+    match sure_end::<M>(cache, context, slot, task, place) {
         Some(end) => Some(end),
-        None => other_end(cache, context, slot, task, place),
+        None => other_end::<M>(cache, context, slot, task, place),
     }
 }
 
 /// The same of what most values are.
 #[inline(always)]
 #[cycle(pass)]
-fn sure_end(
+fn sure_end<M: SeenSlots>(
     cache: &mut Cache,
     context: &ReadContext<'_>,
     slot: &RowSlot,
@@ -69,6 +71,7 @@ fn sure_end(
     place: usize,
 ) -> Option<usize>
     requires context { IsContext context.now }
+    requires rooms { HaveRoom M.most context.now }
     requires slot { IsSlotOf context.now.plan.now.plans.items slot.now }
     requires task { IsTaskOf slot.now task }
     requires within { place ≤ length context.now.line }
@@ -87,8 +90,8 @@ fn sure_end(
         Task::Moment => moment_end(line, place),
         Task::Guid => guid_end(line, place),
         Task::Member => context.known.text_end(slot.member_of, line, place),
-        Task::Record => record_end(cache, context, slot, place),
-        Task::Items => array_end(cache, context, slot, place),
+        Task::Record => record_end::<M>(cache, context, slot, place),
+        Task::Items => array_end::<M>(cache, context, slot, place),
         Task::Any => any_number_end(line, place),
     }
 }
@@ -96,13 +99,14 @@ fn sure_end(
 /// The offset after the object that begins there.
 #[inline(always)]
 #[cycle(pass)]
-fn record_end(
+fn record_end<M: SeenSlots>(
     cache: &mut Cache,
     context: &ReadContext<'_>,
     slot: &RowSlot,
     place: usize,
 ) -> Option<usize>
     requires context { IsContext context.now }
+    requires rooms { HaveRoom M.most context.now }
     requires slot { IsSlotOf context.now.plan.now.plans.items slot.now }
     requires item { slot.now.item ≡ Task.Record }
     requires within { place ≤ length context.now.line }
@@ -113,7 +117,7 @@ fn record_end(
         return None;
     }
     cache.depth -= 1;
-    let end = pass_members(cache, context, &context.types[slot.record], place + 1);
+    let end = pass_members::<M>(cache, context, &context.types[slot.record], place + 1);
     cache.depth += 1;
     end
 }
@@ -121,13 +125,14 @@ fn record_end(
 /// The offset after the array that begins there.
 #[inline(always)]
 #[cycle(pass)]
-fn array_end(
+fn array_end<M: SeenSlots>(
     cache: &mut Cache,
     context: &ReadContext<'_>,
     slot: &RowSlot,
     place: usize,
 ) -> Option<usize>
     requires context { IsContext context.now }
+    requires rooms { HaveRoom M.most context.now }
     requires slot { IsSlotOf context.now.plan.now.plans.items slot.now }
     requires single { IsSingle slot.now.item }
     requires within { place ≤ length context.now.line }
@@ -142,7 +147,7 @@ fn array_end(
         return Some(place + 2);
     }
     cache.depth -= 1;
-    let end = items_end(cache, context, slot, place + 1);
+    let end = items_end::<M>(cache, context, slot, place + 1);
     cache.depth += 1;
     end
 }
@@ -150,7 +155,7 @@ fn array_end(
 /// The same of a value after white space, and of what is seldom.
 #[inline(never)]
 #[cycle(pass)]
-fn other_end(
+fn other_end<M: SeenSlots>(
     cache: &mut Cache,
     context: &ReadContext<'_>,
     slot: &RowSlot,
@@ -158,6 +163,7 @@ fn other_end(
     from: usize,
 ) -> Option<usize>
     requires context { IsContext context.now }
+    requires rooms { HaveRoom M.most context.now }
     requires slot { IsSlotOf context.now.plan.now.plans.items slot.now }
     requires task { IsTaskOf slot.now task }
     requires within { from ≤ length context.now.line }
@@ -166,7 +172,7 @@ fn other_end(
 {
     let place = past_blanks(&context.line, from);
     if place != from {
-        if let Some(end) = sure_end(cache, context, slot, task, place) {
+        if let Some(end) = sure_end::<M>(cache, context, slot, task, place) {
             return Some(end);
         }
     }
@@ -189,7 +195,7 @@ fn seldom_end(
 {
     let line = &context.line;
     match task {
-        Task::Any => any_end(line, place, cache.depth, &mut cache.decoded),
+        Task::Any => any_value_end(line, place, cache.depth, &mut cache.decoded),
         Task::Items => None,
         _ => if line.byte(place) == b'n' {
             nullable_end(line, slot.is_nullable, place)
@@ -202,7 +208,7 @@ fn seldom_end(
 /// The offset after a null that may be.
 fn nullable_end(line: &RoomyLine<'_>, is_nullable: bool, place: usize) -> Option<usize>
     requires { place ≤ length line.now }
-    ensures { (slots : Slots) (type : SingleType) (depth : ℕ) → IfSome result (λ to. ReadsTo depth line.now place to
+    ensures { (slots : Slots) (type : SingleType) (depth : ℕ) → IfSome result (λ to. ValueStands depth line.now place to
         (FitsSome slots is_nullable is_nullable (single type))) }
 {
     if is_nullable {
@@ -268,7 +274,7 @@ pub(crate) fn typed_number_at(
 /// The offset after a number of the slot's type.
 fn number_end(line: &RoomyLine<'_>, slot: &RowSlot, place: usize) -> Option<usize>
     requires { place ≤ length line.now }
-    ensures { (slots : Slots) (depth : ℕ) → IfSome result (λ to. ReadsTo depth line.now place to
+    ensures { (slots : Slots) (depth : ℕ) → IfSome result (λ to. ValueStands depth line.now place to
         (FitsSomeHowever slots (single (primitive slot.now.prim)))) }
 {
     match typed_number_at(line, slot, place) {
@@ -286,7 +292,7 @@ fn literal_end(
     place: usize,
 ) -> Option<usize>
     requires { place ≤ length line.now }
-    ensures { (slots : Slots) (depth : ℕ) → IfSome result (λ to. ReadsTo depth line.now place to
+    ensures { (slots : Slots) (depth : ℕ) → IfSome result (λ to. ValueStands depth line.now place to
         (FitsSomeHowever slots (single (primitive slot.now.prim)))) }
 {
     match literal_at(buffer, line, slot.prim, place) {
@@ -304,7 +310,7 @@ fn member_text_end(
     place: usize,
 ) -> Option<usize>
     requires { place ≤ length context.now.line }
-    ensures read { (depth : ℕ) → IfSome result (λ to. ReadsTo depth context.now.line place to (FitsSomeHowever
+    ensures read { (depth : ℕ) → IfSome result (λ to. ValueStands depth context.now.line place to (FitsSomeHowever
         (slots_of context.now.schema.now) (single (enumeration (name_at context.now.schema.now slot.now.member_of))))) }
     ensures depth { cache.new.depth ≡ cache.old.depth }
 {
@@ -323,13 +329,14 @@ fn member_text_end(
 /// The offset after an array's items and its bracket.
 #[inline(never)]
 #[cycle(pass)]
-fn items_end(
+fn items_end<M: SeenSlots>(
     cache: &mut Cache,
     context: &ReadContext<'_>,
     slot: &RowSlot,
     from: usize,
 ) -> Option<usize>
     requires context { IsContext context.now }
+    requires rooms { HaveRoom M.most context.now }
     requires slot { IsSlotOf context.now.plan.now.plans.items slot.now }
     requires single { IsSingle slot.now.item }
     requires within { from ≤ length context.now.line }
@@ -342,7 +349,7 @@ fn items_end(
         return Some(place + 1);
     }
     'items: loop {
-        let Some(end) = value_end(cache, context, slot, slot.item, place) else {
+        let Some(end) = value_end::<M>(cache, context, slot, slot.item, place) else {
             return None;
         };
         place = past_blanks(line, end);

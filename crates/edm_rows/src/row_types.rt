@@ -1,15 +1,14 @@
 //! The types that a row may hold, of which each slot says in one word how its values are passed.
-ghost use Rattle.std.specs.Prelude.{◌≡◌, ◌-◌, ◌^◌, ◌<◌, ◌≤◌, ℕ, pos, [], length, map, slice_get, None, IfSome, IsTrue, false};
-ghost use Rattle.std.specs.Int.{bit_at};
+ghost use Rattle.std.specs.Prelude.{◌≡◌, ◌^◌, ◌<◌, ℕ, pos, [], length, map, slice_get, None, IfSome, IsTrue, false};
 ghost use Rattle.csdl_schema.specs.PropertyView.{property_type, target_of};
 ghost use Rattle.csdl_schema.specs.SchemaModel.{SchemaModel, Slots};
 ghost use Rattle.edm_values.specs.NumberTypes.{IsNumberOf, IsNumberType};
 ghost use Rattle.edm_row_plans.specs.Expanded.{target_if};
 ghost use Rattle.edm_row_plans.specs.Plans.{ArePlans};
 ghost use Rattle.edm_entities.specs.Row.{val_of};
-ghost use Rattle.edm_entities.specs.private.Passed.{FitsSeen};
+ghost use Rattle.edm_rows.specs.private.Passed.{FitsSeen};
 ghost use Rattle.edm_rows.specs.private.Held.{IsLeaf};
-ghost use Rattle.edm_rows.specs.private.RowSlots.{AreRowTypes, IsFresh, IsFreshType, IsRowType};
+ghost use Rattle.edm_rows.specs.private.RowSlots.{AreFew, AreRowTypes, IsFresh, IsFreshType, IsRowType};
 ghost use Rattle.edm_rows.specs.private.RowTypes.{AreSureDigits, HasRecord, IsKindOf, IsMadeOf, IsPrimitiveTask};
 ghost use Rattle.edm_rows.specs.private.RowTypes.{IsTaskAs, nullable_as};
 
@@ -19,17 +18,21 @@ use edm_row_plans::{
 };
 use edm_values::{Prim, Sieve, Value};
 use json_room::SpelledKey;
+use seen_slots::{ManySlots, SeenSlots};
 use spare_values::Spare;
 use std::alloc::Global;
 
 /// How deep objects and arrays may nest in a row.
 pub(crate) const DEPTH: usize = 127;
 
-/// How many slots a type may have, each with a bit of a word.
-const SLOTS: usize = 64;
+/// How many slots a type may have.
+const SLOTS: usize = 1024;
+
+/// How many slots have marks in one word.
+pub(crate) const FEW_SLOTS: usize = 64;
 
 /// How many entries there are to store the order of members.
-pub(crate) const PLACES: usize = 256;
+pub(crate) const PLACES: usize = 1024;
 
 /// What a value, or an item, is held to.
 #[derive(Clone, Copy, Debug, PartialEq, Eq)]
@@ -58,6 +61,7 @@ pub(crate) struct RowSlot {
     /// A row is left out whose value it rejects.
     pub(crate) sieve: Sieve,
     pub(crate) is_nullable: bool,
+    /// Its bit of the word that marks it.
     pub(crate) bit: u64,
     /// So many digits, and one less than that, always write a number of the type.
     pub(crate) sure: usize,
@@ -90,9 +94,11 @@ pub(crate) struct RowType {
     /// The node of the expansion that it is after.
     pub(crate) node: Option<usize>,
     pub(crate) slots: Vec<RowSlot>,
-    /// The bits of all slots, and of those that may be absent.
-    pub(crate) all: u64,
-    pub(crate) optional: u64,
+    /// All slots, and those that may be absent.
+    pub(crate) all: ManySlots,
+    pub(crate) optional: ManySlots,
+    /// Whether no type of the plan has more slots than a word has bits.
+    pub(crate) all_few: bool,
     /// Where the order of an object's first member is kept.
     pub(crate) order: usize,
 }
@@ -197,16 +203,6 @@ fn is_nullable_as(property: &Property) -> bool
     }
 }
 
-/// The bit of a slot whose property may be absent; no bit of another.
-fn absent_bit(plan: &SlotPlan, bit: u64) -> u64
-    ensures none { (k : ℕ) → bit_at bit k ≡ 0 → bit_at result k ≡ 0 }
-    ensures absent { (schema : SchemaModel) (slots : Slots) (k : ℕ)
-        → plan.now.target ≡ target_if (slots.needed []) (target_of plan.now.property) → bit_at result k ≡ 1
-        → FitsSeen slots plan.now.property.nullable (property_type schema plan.now.property) None (val_of Value.Null) }
-{
-    if may_be_absent(plan) { bit } else { 0 }
-}
-
 /// Whether a property may be absent. A navigation property that is expanded may not.
 fn may_be_absent(plan: &SlotPlan) -> bool
     ensures { (schema : SchemaModel) (slots : Slots)
@@ -233,8 +229,7 @@ fn row_slot(
     order: usize,
     name: &str,
 ) -> Option<RowSlot>
-    requires index { index < 64 }
-    requires order { order < 256 }
+    requires order { order < 1024 }
     ensures made { IfSome result (IsMadeOf index name.now plan.now) }
     ensures fresh { IfSome result IsFresh }
 {
@@ -250,7 +245,7 @@ fn row_slot(
         index,
         sieve: Sieve::All,
         is_nullable: is_nullable_as(&plan.property),
-        bit: 1 << index,
+        bit: 1 << (index % 64),
         sure: kind.sure,
         order,
         node: plan.node,
@@ -277,17 +272,6 @@ fn has_record(plans: &[TypePlan], plan: &SlotPlan) -> bool
     }
 }
 
-/// The bits of so many slots.
-fn all_bits(count: usize) -> u64
-    requires { count ≤ 64 }
-    ensures { result ≡ 2 ^ count - 1 }
-{
-    if count == 64 {
-        return u64::MAX;
-    }
-    (1 << count) - 1
-}
-
 /// The type of the plan at an index; the order of the members of its objects is stored from another index on.
 fn row_type(
     alloc: Global,
@@ -298,7 +282,7 @@ fn row_type(
 ) -> Option<RowType>
     requires plans { ArePlans schema.now plan.now.expansion plan.now.plans.items }
     requires place { place < length plan.now.plans.items }
-    requires order { order < 256 }
+    requires order { order < 1024 }
     ensures planned { IfSome result (λ type. IfSome (slice_get plan.now.plans.items place)
         (λ p. IsRowType schema.now plan.now.expansion plan.now.plans.items p type)) }
     ensures fresh { IfSome result IsFreshType }
@@ -308,7 +292,8 @@ fn row_type(
         return None;
     }
     let mut slots = Vec::new(alloc);
-    let mut optional = 0;
+    let mut all = ManySlots::none();
+    let mut optional = ManySlots::none();
     for index in 0..of.slots.len() {
         let one = &of.slots[index];
         let name = schema.slot_name(of.type_id, index);
@@ -319,7 +304,10 @@ fn row_type(
         if !has_record(plan.plans.as_slice(), one) {
             return None;
         }
-        optional |= absent_bit(one, slot.bit);
+        all.mark(slot.index, slot.bit);
+        if may_be_absent(one) {
+            optional.mark(slot.index, slot.bit);
+        }
         if slots.push(slot).is_err() {
             return None;
         }
@@ -328,10 +316,23 @@ fn row_type(
         type_id: of.type_id,
         node: of.node,
         slots,
-        all: all_bits(of.slots.len()),
+        all,
         optional,
+        all_few: false,
         order,
     })
+}
+
+/// Whether no type of these has more slots than a word has bits.
+fn have_few_slots(plans: &[TypePlan]) -> bool
+    ensures { IsTrue result → AreFew plans.now }
+{
+    for place in 0..plans.len() {
+        if plans[place].slots.len() > FEW_SLOTS {
+            return false;
+        }
+    }
+    true
 }
 
 /// The types of a plan, in its order; none where one of them is not read so.
@@ -341,6 +342,7 @@ pub(crate) fn row_types(alloc: Global, schema: &Schema, plan: &RowPlan) -> Optio
         AreRowTypes schema.now plan.now.expansion plan.now.plans.items types.items) }
     ensures fresh { IfSome result (λ types. (place : ℕ) → IfSome (slice_get types.items place) IsFreshType) }
 {
+    let all_few = have_few_slots(plan.plans.as_slice());
     let mut types = Vec::new(alloc);
     let mut order = 0;
     for place in 0..plan.plans.len() {
@@ -348,7 +350,13 @@ pub(crate) fn row_types(alloc: Global, schema: &Schema, plan: &RowPlan) -> Optio
             return None;
         };
         order = (order + row_type.slots.len() + 1) % PLACES;
-        if types.push(row_type).is_err() {
+        if types
+            .push(RowType {
+                all_few,
+                ..row_type
+            })
+            .is_err()
+        {
             return None;
         }
     }

@@ -1,18 +1,17 @@
 //! The reader of rows of one type.
-ghost use Rattle.std.specs.Prelude.{◌≡◌, ◌≢◌, ◌⊎◌, ◌↔◌, ◌≤◌, ◌+◌, ℕ, List, [], get_or, length, slice_get, take, true, false, All, IfSome, IsTrue};
+ghost use Rattle.std.specs.Prelude.{◌≡◌, ◌≢◌, ◌↔◌, ◌≤◌, ◌+◌, ℕ, List, get_or, length, take, true, false, All, IfSome, IsTrue};
 ghost use Rattle.std.specs.Str.{IsAscii};
-ghost use Rattle.edm_entities.specs.RowReading.{IsLineBut};
+ghost use Rattle.edm_rows.specs.RowReading.{IsLineBut};
 ghost use Rattle.edm_row_plans.specs.Plans.{IsPlanOf};
-ghost use Rattle.edm_entities.specs.private.Passed.{IsRowValue};
-ghost use Rattle.json_tokens.specs.LexemesAt.{PassesSpaces};
+ghost use Rattle.edm_rows.specs.private.Passed.{IsRowValue};
+ghost use Rattle.json_room.specs.LexemesAt.{PassesSpaces};
 ghost use Rattle.csdl_schema.specs.SchemaModel.{properties_at};
 ghost use Rattle.edm_row_plans.specs.Expanded.{slots_at};
-ghost use Rattle.edm_rows.specs.private.HeldRows.{AreTypesOf, HasFirstType, IsTakenWhole, IsTakenWithin};
+ghost use Rattle.edm_rows.specs.private.HeldRows.{HasFirstType, IsTakenWhole, IsTakenWithin};
 ghost use Rattle.edm_rows.specs.private.HeldRows.{ReadsRowAt, TakesMembers, TakesObject};
 ghost use Rattle.edm_rows.specs.RowItems.{ReadsItem};
 ghost use Rattle.edm_rows.specs.private.KnownTexts.{AreKnown};
 ghost use Rattle.edm_rows.specs.private.KeptRows.{RowConforms, root_properties, root_slots};
-ghost use Rattle.edm_rows.specs.private.RowSlots.{IsFreshType};
 ghost use Rattle.edm_rows.specs.private.Contexts.{IsContext};
 ghost use Rattle.edm_rows.specs.HeldSchema.{schema_in};
 ghost use Rattle.edm_rows.specs.RowsOfType.{IsLeftOut, IsSameButKept, IsSameReader, names_unkept, row_held, sifted};
@@ -22,13 +21,15 @@ use super::kept_leaf::Taken;
 use super::kept_value::take_members;
 use super::known_texts::{Cache, KnownTexts};
 use super::passed_value::ReadContext;
-use super::row_types::{DEPTH, RowType, row_types};
+use super::row_layout::types_of;
+use super::row_types::{DEPTH, RowType};
 use super::slot_marks::{keep_name, keep_slots, sift_slot};
 use csdl_schema::Schema;
 use edm_entities::Entity;
-use edm_row_plans::{RowPlan, plan_at};
+use edm_row_plans::RowPlan;
 use edm_values::{Sieve, Value};
 use json_room::{RoomyLine, front_text, has_room, past_blanks};
+use seen_slots::{FewSlots, ManySlots};
 use std::alloc::Global;
 use std::marker::Model;
 
@@ -299,24 +300,6 @@ fn row_of_line(alloc: Global, schema: &Schema, plan: &RowPlan, line: &[u8]) -> O
     }
 }
 
-/// The types of a plan, of which the first is that of its rows; none where rows are not read so.
-fn types_of(alloc: Global, schema: &Schema, plan: &RowPlan) -> Vec<RowType>
-    requires { IsPlanOf schema.now plan.now }
-    ensures types { (result.items ≡ []) ⊎ AreTypesOf schema.now plan.now result.items }
-    ensures fresh { (place : ℕ) → IfSome (slice_get result.items place) IsFreshType }
-{
-    if !plan.is_whole {
-        return Vec::new(alloc);
-    }
-    let Some(_root) = plan_at(plan.plans.as_slice(), 0, plan.type_id, Some(0)) else {
-        return Vec::new(alloc);
-    };
-    match row_types(alloc, schema, plan) {
-        Some(types) => types,
-        None => Vec::new(alloc),
-    }
-}
-
 /// Takes the row that begins at an offset, unless it is rejected.
 #[inline(always)]
 fn take_row(cache: &mut Cache, context: &ReadContext<'_>, place: usize, row: &mut Value) -> Taken
@@ -355,14 +338,13 @@ fn take_object(
     ensures conforms { result ≢ Taken.Broken
         → RowConforms (root_slots context.now) (root_properties context.now) values.new.items }
 {
+    let plan = &context.types[0];
     cache.depth = context.depth;
-    take_members(
-        cache,
-        context,
-        &context.types[0],
-        from,
-        values.as_mut_slice(),
-    )
+    if plan.all_few {
+        take_members::<FewSlots>(cache, context, plan, from, values.as_mut_slice())
+    } else {
+        take_members::<ManySlots>(cache, context, plan, from, values.as_mut_slice())
+    }
 }
 
 /// Whether nothing but white space stands after what was taken of a line.
@@ -408,7 +390,7 @@ fn reading_of(taken: Taken) -> Reading
 
 /// Whether nothing but white space stands after an offset.
 #[inline(always)]
-fn ends_line(line: &RoomyLine<'_>, end: usize) -> bool
+pub(crate) fn ends_line(line: &RoomyLine<'_>, end: usize) -> bool
     requires { end ≤ length line.now }
     ensures { IsTrue result → PassesSpaces line.now end (length line.now) }
 {

@@ -3,36 +3,41 @@ ghost use Rattle.std.specs.Prelude.{◌≡◌, MatchResult, string_bytes};
 ghost use Rattle.odata_checked_filter.specs.Filter.{IsFilter, filter_in};
 ghost use Rattle.handle_calls.specs.FilterCalls.{IsCanonicalOf, IsExplanationOf, IsFilterIn};
 ghost use Rattle.handle_calls.specs.FilterCalls.{IsFilterMade, IsFilterOfQuery};
-ghost use Rattle.row_judges.specs.RowAnswer.{IsPlanOfFilter};
-ghost use Rattle.handle_calls.specs.HeldType.{IsPlanOfType};
+ghost use Rattle.row_judges.specs.RowAnswer.{IsLayoutOfFilter};
 ghost use Rattle.handle_calls.specs.FilterCalls.{IsNoFilter, IsNoQueryFilter, IsNoText, IsNotMade};
 
 use crate::call_fault::Fault;
 use crate::handle::{FilterHandle, Handle, TypeHandle};
-use edm_entities::RowPlan;
-use odata_filter::row_plan_of;
+use edm_rows::{HeldSchema, RowLayout};
+use odata_filter::row_layout_of;
 use odata_text::{QueryFault, filter_of_query};
 use odata_typing::{Checked, StoredFilter, check_to_store};
 use std::alloc::Global;
 use std::sync::Arc;
 
-/// What rows of a filter are read by: the plan of its type where neither has anything expanded, else one of its own.
-fn plan_for(
+/// What rows of a filter are read by: the layout of its type where neither has anything expanded, else one of its own.
+fn layout_for(
     alloc: Global,
-    shared: &Arc<RowPlan>,
+    held: &TypeHandle,
     checked: &Checked<'_>,
-) -> Result<Arc<RowPlan>, Fault>
-    requires { IsPlanOfType (record { schema = checked.now.schema; id = checked.now.filtered }) shared.now.value }
-    ensures { MatchResult result (λ plan. IsPlanOfFilter checked.now plan.value) (λ fault. fault ≡ Fault.Memory) }
+) -> Result<Arc<RowLayout<'static>>, Fault>
+    requires schema { checked.now.schema ≡ held.now.schema }
+    requires filtered { checked.now.filtered ≡ held.now.id }
+    ensures { MatchResult result (λ layout. IsLayoutOfFilter checked.now layout.value)
+        (λ fault. fault ≡ Fault.Memory) }
 {
-    if shared.expansion.is_empty() && checked.expansion().is_empty() {
-        return match Arc::try_clone(shared) {
-            Ok(plan) => Ok(plan),
+    if held.layout.expansion().is_empty() && checked.expansion().is_empty() {
+        return match Arc::try_clone(&held.layout) {
+            Ok(layout) => Ok(layout),
             Err(_) => Err(Fault::Memory),
         };
     }
-    match Arc::new(alloc, row_plan_of(alloc, checked)) {
-        Ok(plan) => Ok(plan),
+    let Ok(schema) = Arc::try_clone(&held.schema) else {
+        return Err(Fault::Memory);
+    };
+    let layout = row_layout_of(alloc, checked, HeldSchema::Shared(schema));
+    match Arc::new(alloc, layout) {
+        Ok(layout) => Ok(layout),
         Err(_) => Err(Fault::Memory),
     }
 }
@@ -44,7 +49,7 @@ fn held_filter(alloc: Global, held: &TypeHandle, filter: StoredFilter) -> Result
     ensures { MatchResult result (λ made. made ≡ Handle.Filter (filter_in held.now.schema filter))
         (λ fault. fault ≡ Fault.Memory) }
 {
-    let plan = plan_for(alloc, &held.plan, &filter.with_schema(&held.schema))?;
+    let layout = layout_for(alloc, held, &filter.with_schema(&held.schema))?;
     let Ok(filter) = Arc::new(alloc, filter) else {
         return Err(Fault::Memory);
     };
@@ -52,7 +57,7 @@ fn held_filter(alloc: Global, held: &TypeHandle, filter: StoredFilter) -> Result
         Ok(schema) => Ok(Handle::Filter(FilterHandle {
             schema,
             filter,
-            plan,
+            layout,
         })),
         Err(_) => Err(Fault::Memory),
     }

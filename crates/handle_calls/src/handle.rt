@@ -2,7 +2,8 @@
 ghost use Rattle.std.specs.Prelude.{◌≡◌};
 
 use csdl_schema::{Schema, TypeId};
-use edm_entities::{RowFault, RowPlan, RowReader};
+use edm_entities::RowFault;
+use edm_rows::{LayoutReader, RowLayout};
 use edm_values::Moment;
 use odata_filter::FilterRows;
 use odata_typing::{Checked, StoredFilter};
@@ -25,12 +26,12 @@ pub struct SchemaHandle {
     pub(crate) schema: Arc<Schema>,
 }
 
-/// An entity type with its schema, and the plan of its rows where nothing is expanded. Filters share that plan.
+/// An entity type with its schema, and the layout of its rows where nothing is expanded. Filters share that layout.
 #[derive(Drop)]
 pub struct TypeHandle {
     pub(crate) schema: Arc<Schema>,
     pub(crate) id: TypeId,
-    pub(crate) plan: Arc<RowPlan>,
+    pub(crate) layout: Arc<RowLayout<'static>>,
 }
 
 impl Model for TypeHandle {
@@ -42,16 +43,16 @@ impl Model for TypeHandle {
 
     ghost use Rattle.handle_calls.specs.HeldType.{IsHeldType};
 
-    ghost invariant = { λ held. IsHeldType (record { schema = held.schema.value; id = held.id }) held.plan.value };
+    ghost invariant = { λ held. IsHeldType (record { schema = held.schema.value; id = held.id }) held.layout.value };
 }
 
-/// A filter with the schema that it was checked by, and the plan of its rows. That is its type's plan, or one of its
+/// A filter with the schema that it was checked by, and the layout of its rows. That is its type's layout, or one of its
 /// own where it navigates.
 #[derive(Drop)]
 pub struct FilterHandle {
     pub(crate) schema: Arc<Schema>,
     pub(crate) filter: Arc<StoredFilter>,
-    pub(crate) plan: Arc<RowPlan>,
+    pub(crate) layout: Arc<RowLayout<'static>>,
 }
 
 impl Model for FilterHandle {
@@ -70,7 +71,7 @@ impl Model for FilterHandle {
 
     ghost use Rattle.handle_calls.specs.Handle.{IsHeldFilter};
 
-    ghost invariant = { λ held. IsHeldFilter (filter_in held.schema.value held.filter.value) held.plan.value };
+    ghost invariant = { λ held. IsHeldFilter (filter_in held.schema.value held.filter.value) held.layout.value };
 }
 
 impl FilterHandle {
@@ -110,7 +111,7 @@ impl Model for OwnFilter {
 /// What lasts from row to row, of any filter.
 #[derive(Drop)]
 pub struct JudgeHandle {
-    pub(crate) reader: RowReader,
+    pub(crate) reader: LayoutReader,
     /// What `now()` stands for, if that is known.
     pub(crate) moment: Option<Moment>,
     /// What a row may cost, if that is bounded.

@@ -18,7 +18,7 @@ use crate::answer::Answer;
 use crate::call_answers::report_fault;
 use crate::call_fault::{Fault, path_of};
 use crate::handle::{FilterHandle, Handle, JudgeHandle, OwnFilter};
-use edm_entities::RowReader;
+use edm_rows::LayoutReader;
 use edm_values::{Moment, read_moment};
 use jiff::civil;
 use odata_eval::Verdict;
@@ -32,7 +32,7 @@ pub(crate) fn judge_with(alloc: Global, own: Option<Box<OwnFilter>>) -> Result<H
     ensures { MatchResult result (IsNewJudge own) IsNoMemory }
 {
     let judge = JudgeHandle {
-        reader: RowReader::new(alloc),
+        reader: LayoutReader::new(alloc),
         moment: None,
         bound: None,
         last: None,
@@ -53,7 +53,7 @@ fn own_filter(alloc: Global, held: &FilterHandle) -> Result<Box<OwnFilter>, Allo
     let held = FilterHandle {
         schema: Arc::try_clone(&held.schema)?,
         filter: Arc::try_clone(&held.filter)?,
-        plan: Arc::try_clone(&held.plan)?,
+        layout: Arc::try_clone(&held.layout)?,
     };
     match Box::new(alloc, OwnFilter { held, rows }) {
         Ok(own) => Ok(own),
@@ -178,13 +178,12 @@ fn verdict_on(held: &FilterHandle, judge: &mut JudgeHandle, row: &[u8]) -> Resul
             let by = BoundedJudge {
                 checked: &checked,
                 moment: &now,
-                plan: &held.plan,
                 most,
             };
-            bounded_outcome(by.judge(&mut judge.reader, row))
+            bounded_outcome(by.judge(&held.layout, &mut judge.reader, row))
         }
         None => {
-            let reported = judge_row(&checked, &now, &held.plan, &mut judge.reader, row);
+            let reported = judge_row(&checked, &now, &held.layout, &mut judge.reader, row);
             plain_outcome(reported)
         }
     }

@@ -9,7 +9,8 @@ use crate::call_fault::Fault;
 use crate::caller_buffer::write_both;
 use crate::handle::{Handle, SchemaHandle, TypeHandle};
 use csdl_schema::{Expansion, Schema, SchemaFault, TypeId};
-use edm_entities::RowPlan;
+use edm_row_plans::RowPlan;
+use edm_rows::{HeldSchema, RowLayout};
 use odata_filter::Numbered;
 use std::alloc::Global;
 use std::sync::Arc;
@@ -29,21 +30,23 @@ pub(crate) fn schema_of(alloc: Global, document: &[u8]) -> Result<Handle, Fault>
     }
 }
 
-/// An entity type with its schema, and a plan of its rows.
+/// An entity type with its schema, and a layout of its rows.
 fn type_handle(alloc: Global, schema: &Arc<Schema>, id: TypeId) -> Result<Handle, Fault>
     requires held { HoldsType schema.now.value id }
     requires entity { IsEntityAt schema.now.value id }
     ensures { MatchResult result (λ made. made ≡ Handle.Type (record { schema = schema.now.value; id = id }))
         (λ fault. fault ≡ Fault.Memory) }
 {
-    let Ok(plan) = Arc::new(
-        alloc,
-        RowPlan::new(alloc, schema, id, &Expansion::none(alloc)),
-    ) else {
+    let Ok(shared) = Arc::try_clone(schema) else {
+        return Err(Fault::Memory);
+    };
+    let plan = RowPlan::new(alloc, schema, id, &Expansion::none(alloc));
+    let layout = RowLayout::new(alloc, HeldSchema::Shared(shared), plan);
+    let Ok(layout) = Arc::new(alloc, layout) else {
         return Err(Fault::Memory);
     };
     match Arc::try_clone(schema) {
-        Ok(schema) => Ok(Handle::Type(TypeHandle { schema, id, plan })),
+        Ok(schema) => Ok(Handle::Type(TypeHandle { schema, id, layout })),
         Err(_) => Err(Fault::Memory),
     }
 }

@@ -12,9 +12,9 @@ use Rattle.json.specs.Run.{is_plain}
 use Rattle.json.specs.Text.{after_backslash, after_high, code_unit, content, is_high_surrogate, is_low_surrogate, plain, prepend, short_escape}
 use Rattle.json.specs.Token.{string}
 use Rattle.json.specs.Written.{PlainBetween}
-use Rattle.json_tokens.specs.LexemesAt.{IsTextAt}
-use Rattle.json_tokens.proofs.EscapeLemmas.{after_backslash_passed, after_other_passed, quote_passed}
-use Rattle.json_tokens.proofs.LexemeLemmas.{from_byte, within_byte as byte_within}
+use Rattle.json_room.specs.LexemesAt.{IsTextAt}
+use Rattle.json_room.proofs.EscapeLemmas.{after_backslash_passed, after_other_passed, quote_passed}
+use Rattle.json_room.proofs.LexemeLemmas.{from_byte, within_byte as byte_within}
 use Rattle.json_room.proofs.RoomLemmas.{within_byte as stands_within}
 use Rattle.json_room.specs.private.PassedTexts.{IsShortEscape, PassedUpTo, PassesEscape, PlainUpTo}
 

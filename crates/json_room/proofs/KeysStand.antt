@@ -7,9 +7,9 @@ use Rattle.std.proofs.lemmas.Bool.{true≢false}
 use Rattle.std.specs.List.{AllByRecursion}
 use Rattle.json.specs.Run.{is_plain}
 use Rattle.json.specs.Written.{PlainBetween}
-use Rattle.json_tokens.specs.Keys.{name_with_colon, quoted_name}
-use Rattle.json_tokens.specs.private.Lexemes.{StandsAt}
-use Rattle.json_tokens.proofs.LexemeLemmas.{from_byte}
+use Rattle.json_room.specs.Keys.{name_with_colon, quoted_name}
+use Rattle.json_room.specs.private.Lexemes.{StandsAt}
+use Rattle.json_room.proofs.LexemeLemmas.{from_byte}
 use Rattle.json_room.specs.private.SpelledKey.{StandsByte}
 use Rattle.json_room.proofs.RoomLemmas.{byte_reported, other_default, other_run_within, within_byte}
 

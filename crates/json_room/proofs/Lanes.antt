@@ -8,7 +8,7 @@ use Rattle.std.specs.List.{prefix_len}
 use lib.Count.{count_trailing_zeros}
 use lib.Lanes.{Each1, chunk, mask_l, top, zip2}
 use Rattle.json.specs.Run.{is_no_digit}
-use Rattle.json_tokens.specs.private.Lexemes.{AsciiBetween, DigitsBetween}
+use Rattle.json_room.specs.private.Lexemes.{AsciiBetween, DigitsBetween}
 use Rattle.json_room.specs.private.Utf8.{is_beyond}
 
 -- ---- a test of each byte, found equal to another by trying them all

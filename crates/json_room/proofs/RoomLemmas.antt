@@ -5,8 +5,8 @@ use Rattle.std.proofs.lemmas.List.{drop-drop, get_or-drop, get_or-take, get_or_d
 use Rattle.std.specs.Char.{is_ascii_digit}
 use Rattle.json.specs.Run.{is_plain}
 use Rattle.json.specs.Written.{PlainBetween}
-use Rattle.json_tokens.specs.private.Lexemes.{DigitsBetween, EndsValue, StandsAt}
-use Rattle.json_tokens.specs.declared.lexeme.Turn.TheVariants.{AfterValue}
+use Rattle.json.specs.Lex.{after_value}
+use Rattle.json_room.specs.private.Lexemes.{DigitsBetween, EndsValue, StandsAt}
 use Rattle.json_room.specs.Lexemes.{EndsHere}
 
 module _ (line bytes : List ℕ) (front : take (length line) bytes ≡ line) (feed : get_or bytes (length line) 0 ≡ 10) (room : length line + 64 ≤ length bytes) where
@@ -37,7 +37,7 @@ module _ (line bytes : List ℕ) (front : take (length line) bytes ≡ line) (fe
   digits_here i j within digits k from to = ap is_ascii_digit (sym (same_byte k (omega (arith, to, within)))) ∙ digits k from to
 
 -- where what follows ends a value, none was passed
-pub ends_here : (line : List ℕ) (place : ℕ) → place ≤ length line → EndsHere line place → EndsValue line place place AfterValue
+pub ends_here : (line : List ℕ) (place : ℕ) → place ≤ length line → EndsHere line place → EndsValue line place place after_value
 ends_here line place within here = record { within = within; left = refl; no_colon = here.no_colon; ends = here.ends }
 
 -- a byte that is no LF stands within the line

@@ -6,7 +6,7 @@ use Rattle.std.proofs.lemmas.Str.{IsUtf8-append, IsUtf8-encode, IsUtf8-from_asci
 use Rattle.std.proofs.lemmas.Bool.Decides.{nat_tests}
 use Rattle.std.specs.Char.{encode_utf8}
 use Rattle.std.specs.Str.{IsAscii, IsUtf8}
-use Rattle.json_tokens.specs.private.Lexemes.{AsciiBetween}
+use Rattle.json_room.specs.private.Lexemes.{AsciiBetween}
 
 -- up to one offset, and from there up to the other
 front_joined : (d : List ℕ) (i j : ℕ) → i ≤ j → take j d ≡ take i d ++ take (j - i) (drop i d)

@@ -6,11 +6,11 @@ use Rattle.std.proofs.lemmas.List.{get_or-drop}
 use Rattle.std.specs.Char.{is_ascii_digit}
 use Rattle.std.specs.Str.Parse.{AllDigits, digits_value}
 use Rattle.json.specs.Token.{number}
-use Rattle.json_tokens.specs.WholeNumbers.{IsWhole}
-use Rattle.json_tokens.specs.private.Lexemes.{DigitsBetween, WritesWhole}
-use Rattle.json_tokens.proofs.LexemeLemmas.{cut_digits, cut_long, cut_number}
-use Rattle.json_tokens.proofs.ShortNumberLemmas.{all_digits}
-use Rattle.json_tokens.proofs.WholeLemmas.{digits_whole}
+use Rattle.json_room.specs.WholeNumbers.{IsWhole}
+use Rattle.json_room.specs.private.Lexemes.{DigitsBetween, WritesWhole}
+use Rattle.json_room.proofs.LexemeLemmas.{cut_digits, cut_long, cut_number}
+use Rattle.json_room.proofs.ShortNumberLemmas.{all_digits}
+use Rattle.json_room.proofs.WholeLemmas.{digits_whole}
 use Rattle.json_room.specs.Lexemes.{StandsTo}
 use Rattle.json_room.proofs.Standing.{number_stands}
 

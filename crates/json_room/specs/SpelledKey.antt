@@ -1,7 +1,7 @@
 -- A member's name as it is spelled in a line (RFC 8259, sections 4 and 7).
 use Rattle.std.specs.Prelude.{◌≡◌, ◌<◌, ℕ, length, get_or}
 use Rattle.json.specs.Written.{PlainBetween}
-use Rattle.json_tokens.specs.Keys.{name_with_colon}
+use Rattle.json_room.specs.Keys.{name_with_colon}
 use Rattle.json_room.specs.declared.spelled_key.SpelledKey.TheInside.{Inside}
 
 -- It has the first bytes of the name with its quotes and its colon, at most sixteen, and all bits of each of these.

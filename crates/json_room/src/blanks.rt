@@ -1,7 +1,7 @@
 //! White space within a line, or a document of several (RFC 8259, section 2).
 ghost use Rattle.std.specs.Prelude.{◌≡◌, ◌≢◌, ◌≤◌, length, true, IsTrue};
 ghost use Rattle.json.specs.Word.{is_space};
-ghost use Rattle.json_tokens.specs.LexemesAt.{PassesSpaces};
+ghost use Rattle.json_room.specs.LexemesAt.{PassesSpaces};
 
 use super::roomy_line::RoomyLine;
 

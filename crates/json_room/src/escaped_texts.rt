@@ -1,33 +1,21 @@
 //! Texts that may have escapes (RFC 8259, section 7).
 ghost use Rattle.std.specs.Prelude.{ℕ, ◌<◌, ◌≤◌, List, length, IfSome};
 ghost use Rattle.std.specs.Str.{IsUtf8};
-ghost use Rattle.json_tokens.specs.LexemesAt.{IsTextAt};
+ghost use Rattle.json_room.specs.LexemesAt.{IsTextAt};
 
+use super::decode_buffer::DecodeBuffer;
+use super::decoded_texts::escaped_at;
 use super::escapes::escape_end;
 use super::roomy_line::RoomyLine;
 use super::texts::{plain_end, text_at, text_end};
-use json_tokens::{Scratch, escaped_at};
-use std::alloc::Global;
-
-/// The memory in which escapes are decoded. Nothing is allocated for it before the first text that has any.
-#[derive(Drop)]
-pub struct DecodeBuffer {
-    scratch: Scratch,
-}
-
-impl DecodeBuffer {
-    /// Creates a buffer for which nothing is allocated yet.
-    #[inline(always)]
-    pub fn new(alloc: Global) -> DecodeBuffer {
-        DecodeBuffer {
-            scratch: Scratch::new(alloc),
-        }
-    }
-}
 
 /// The offset after the text that begins there.
 #[inline(always)]
-pub fn any_text_end(line: &RoomyLine<'_>, place: usize, buffer: &mut DecodeBuffer) -> Option<usize>
+pub(crate) fn any_text_end(
+    line: &RoomyLine<'_>,
+    place: usize,
+    buffer: &mut DecodeBuffer,
+) -> Option<usize>
     requires { place ≤ length line.now }
     ensures further { IfSome result (λ to. place < to) }
     ensures text { IfSome result (λ to. (s : List ℕ) × IsTextAt line.now place s to × IsUtf8 s) }
@@ -113,7 +101,7 @@ fn escaped_text_at<'t>(
     if line.byte(place) != b'"' {
         return None;
     }
-    match escaped_at(line.text(), place, &mut buffer.scratch) {
+    match escaped_at(line.text(), place, buffer) {
         Some((text, end)) => if end > place { Some((text, end)) } else { None },
         None => None,
     }

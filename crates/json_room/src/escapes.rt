@@ -64,7 +64,7 @@ fn unit_end(line: &RoomyLine<'_>, place: usize) -> Option<usize>
 
 /// The value of a hexadecimal digit; of any other byte one that is too large.
 #[inline(always)]
-fn hex_digit(byte: u8) -> u32
+pub(crate) fn hex_digit(byte: u8) -> u32
     ensures value { result ≡ digit_value byte }
     ensures ascii { result < 16 → byte < 128 }
     ensures plain { result < 16 → is_plain byte ≡ true }

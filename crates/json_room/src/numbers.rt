@@ -4,9 +4,9 @@ ghost use Rattle.std.specs.Simd.Lanes.{mask_l};
 ghost use Rattle.json.specs.Run.{is_no_digit};
 ghost use Rattle.json.specs.Token.{number};
 ghost use Rattle.serde_json.specs.Read.{number_of};
-ghost use Rattle.json_tokens.specs.WholeNumbers.{IsWhole};
-ghost use Rattle.json_tokens.specs.private.Lexemes.{AsciiBetween, DigitsBetween, WritesWhole};
-ghost use Rattle.json_tokens.specs.private.ShortNumbers.{EndsFraction};
+ghost use Rattle.json_room.specs.WholeNumbers.{IsWhole};
+ghost use Rattle.json_room.specs.private.Lexemes.{AsciiBetween, DigitsBetween, WritesWhole};
+ghost use Rattle.json_room.specs.private.ShortNumbers.{EndsFraction};
 ghost use Rattle.json_room.specs.Lexemes.{StandsTo};
 
 use super::roomy_line::RoomyLine;
@@ -127,7 +127,7 @@ fn digits_value(line: &RoomyLine<'_>, from: usize) -> Option<(u64, usize)>
 
 /// The offset after a number without a sign and without an exponent, whose value is not asked for.
 #[inline(always)]
-pub fn short_number_end(line: &RoomyLine<'_>, from: usize) -> Option<usize>
+pub(crate) fn short_number_end(line: &RoomyLine<'_>, from: usize) -> Option<usize>
     requires { from ≤ length line.now }
     ensures { IfSome result (λ to. (s : List ℕ) × StandsTo line.now from (number s) to × IsSome (number_of s)) }
 {

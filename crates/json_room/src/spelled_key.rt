@@ -1,13 +1,13 @@
 //! A member's name as it is spelled in a line (RFC 8259, sections 4 and 7).
 ghost use Rattle.std.specs.Prelude.{◌≡◌, ℕ, ◌+◌, ◌<◌, ◌≤◌, ◌^◌, length, IfSome, IsTrue};
-ghost use Rattle.json_tokens.specs.Keys.{name_with_colon};
-ghost use Rattle.json_tokens.specs.LexemesAt.{BeginsKey};
+ghost use Rattle.json_room.specs.Keys.{name_with_colon};
+ghost use Rattle.json_room.specs.LexemesAt.{BeginsKey};
 ghost use Rattle.json_room.specs.private.SpelledKey.{StandsByte};
 
 use super::blanks::past_blanks;
 use super::fronts::{are_front, front_of, mask_of};
+use super::key::Key;
 use super::roomy_line::RoomyLine;
-use json_tokens::Key;
 use std::alloc::Global;
 use std::marker::Model;
 use std::simd::prelude::*;

@@ -4,7 +4,7 @@ ghost use Rattle.std.specs.Simd.Lanes.{mask_l};
 ghost use Rattle.std.specs.Str.{IsUtf8};
 ghost use Rattle.json.specs.Run.{is_stop};
 ghost use Rattle.json.specs.Written.{PlainBetween};
-ghost use Rattle.json_tokens.specs.LexemesAt.{IsTextAt};
+ghost use Rattle.json_room.specs.LexemesAt.{IsTextAt};
 
 use super::roomy_line::RoomyLine;
 use std::simd::prelude::*;

@@ -2,7 +2,7 @@
 ghost use Rattle.std.specs.Prelude.{◌≡◌, ◌+◌, ◌<◌, ◌≤◌, length, map, take, IsTrue};
 ghost use Rattle.std.specs.Simd.Lanes.{mask_l};
 ghost use Rattle.std.specs.Str.{IsUtf8};
-ghost use Rattle.json_tokens.specs.private.Lexemes.{AsciiBetween};
+ghost use Rattle.json_room.specs.private.Lexemes.{AsciiBetween};
 ghost use Rattle.json_room.specs.private.Utf8.{is_beyond};
 
 use std::simd::prelude::*;

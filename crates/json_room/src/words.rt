@@ -1,7 +1,7 @@
 //! The words of JSON: true, false and null (RFC 8259, section 3).
 ghost use Rattle.std.specs.Prelude.{◌≡◌, ◌≢◌, ◌+◌, ◌<◌, ◌≤◌, ◌^◌, ℕ, length, get_or, IfSome, IsTrue};
 ghost use Rattle.json.specs.Token.{boolean, null};
-ghost use Rattle.json_tokens.specs.private.Lexemes.{StandsAt};
+ghost use Rattle.json_room.specs.private.Lexemes.{StandsAt};
 ghost use Rattle.json_room.specs.Lexemes.{StandsTo};
 
 use super::roomy_line::RoomyLine;

@@ -30,6 +30,6 @@ pub use headline::{canonical_texts_keep_rows, filters_keep_what_is_true};
 pub use laws::{collections_stop_once, rows_stop_once, unfailing_devices_never_fail};
 pub use line_filter::{ByRecord, CallLog, LineFault, LineReader, Logged, Reads, Tally, Writes};
 pub use row_judges::{
-    BadRow, BoundedJudge, FilterRows, judge_row, row_plan_of, rows_are_reported_once,
+    BadRow, BoundedJudge, FilterRows, judge_row, row_layout_of, rows_are_reported_once,
 };
 pub use run_fault::RunFault;

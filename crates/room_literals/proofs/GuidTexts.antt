@@ -5,7 +5,6 @@ use Rattle.std.proofs.lemmas.Bool.Decides.{nat_tests}
 use Rattle.std.proofs.lemmas.List.{length-append}
 use Rattle.std.specs.Char.{digit_value}
 use Rattle.std.specs.Str.Parse.{AllDigits}
-use Rattle.json.specs.Run.{is_plain}
 use Rattle.edm_values.specs.GuidLiteral.{GuidValue, IsGuidSpelling, digit_groups, guid_text, hex_bytes}
 use Rattle.room_literals.proofs.LiteralTexts.{ArePlain, plain_joined, plain_low}
 use Rattle.room_literals.proofs.MomentTexts.{one_byte, piece, piece_at, piece_long, pieces_joined}
@@ -128,12 +127,9 @@ guid_there b i room first second third h8 h13 h18 h23 =
 
 -- ---- its bytes are plain
 
-hex_plain : (x : ℕ) → digit_value x < 16 → is_plain x ≡ true
-hex_plain x hex = grind (arith, nat_tests)
-
 hexes_plain : (s : List ℕ) → AllDigits 16 s → ArePlain s
 hexes_plain [] all = tt
-hexes_plain (x ∷ s) all = (hex_plain x all.0, hexes_plain s all.1)
+hexes_plain (x ∷ s) all = (let hex = all.0 in grind (arith, nat_tests), hexes_plain s all.1)
 
 take_hex : (n : ℕ) (s : List ℕ) → AllDigits 16 s → AllDigits 16 (take n s)
 take_hex zero s all = tt

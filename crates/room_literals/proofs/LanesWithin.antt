@@ -15,10 +15,6 @@ all_false (true ∷ ms) none k = absurd (omega (arith, none))
 all_false (false ∷ ms) none zero = refl
 all_false (false ∷ ms) none (suc k) = all_false ms (omega (arith, none)) k
 
--- a byte less the lowest, without a borrow, is within the span
-in_span : (x low span : ℕ) → x < 256 → low + span < 256 → (x + (256 - low)) % 256 ≤ span → (low ≤ x) × (x ≤ low + span)
-in_span x low span small fits less = (omega (arith, small, fits, less), omega (arith, small, fits, less))
-
 -- the test of a vector, as the code makes it
 pub lanes_within : (xs lows spans : List ℕ) → length xs ≡ 16 → length lows ≡ 16 → length spans ≡ 16
     → mask_l (map (top 7) (zip2 (λ a b. cond (ltb a b) 255 0) spans (zip2 (λ a b. (a + (256 - b)) % 256) xs lows))) % 2 ^ 64 ≡ 0 → (k : ℕ) → k < 16 → get_or xs k 0 < 256 → get_or lows k 0 + get_or spans k 0 < 256
@@ -32,7 +28,9 @@ lanes_within xs lows spans lx ll ls none k few small fits =
     let zero_mask : mask_l ms ≡ 0 = sym (mask_l-mod ms 64 (omega (arith, count))) ∙ sym (ap (λ (z : List Bool). mask_l z % 2 ^ 64) (tops_compared w8 ltb spans ys)) ∙ none in
     let lane : get_or ys k 0 ≡ (get_or xs k 0 + (256 - get_or lows k 0)) % 256 = get_or-zip2 sub xs lows k 0 0 0 (omega (arith, lx, few)) (omega (arith, ll, few)) in
     let test : ltb (get_or spans k 0) (get_or ys k 0) ≡ false = sym (get_or-zip2 ltb spans ys k 0 0 false (omega (arith, ls, few)) (omega (arith, long, few))) ∙ all_false ms zero_mask k in
-    in_span (get_or xs k 0) (get_or lows k 0) (get_or spans k 0) small fits (subst (λ (y : ℕ). y ≤ get_or spans k 0) lane (ltb-false (get_or spans k 0) (get_or ys k 0) test))
+    -- the byte less the lowest, without a borrow
+    let less : (get_or xs k 0 + (256 - get_or lows k 0)) % 256 ≤ get_or spans k 0 = subst (λ (y : ℕ). y ≤ get_or spans k 0) lane (ltb-false (get_or spans k 0) (get_or ys k 0) test) in
+    (omega (arith, small, fits, less), omega (arith, small, fits, less))
 
 -- ---- hexadecimal digits
 

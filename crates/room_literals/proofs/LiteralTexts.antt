@@ -14,8 +14,8 @@ use Rattle.edm_values.specs.Civil.{Date}
 use Rattle.edm_values.specs.DateLiteral.{DateValue, date_spelling, date_text, four_digits, two_digits}
 use Rattle.edm_values.specs.MomentParts.{IsFourDigitYear}
 use Rattle.edm_values.proofs.literals.Dates.{date_from_bytes, IsDateSpelling-date}
-use Rattle.json_tokens.specs.private.Lexemes.{IsTextAt}
-use Rattle.json_tokens.proofs.LexemeLemmas.{text_lexed}
+use Rattle.json_room.specs.private.Lexemes.{IsTextAt}
+use Rattle.json_room.proofs.LexemeLemmas.{text_lexed}
 use Rattle.json_room.proofs.RoomLemmas.{byte_reported, other_default, plain_here, plain_within, within_byte}
 use Rattle.room_literals.specs.private.SureTexts.{AreWithin, IsDayAt, IsDaySpelled, IsDigitAt}
 
@@ -45,13 +45,10 @@ two_plain n few = (plain_low (48 + n / 10) (omega arith) (omega arith), (plain_l
 four_plain : (n : ℕ) → n < 10000 → ArePlain (four_digits n)
 four_plain n few = plain_joined (two_digits (n / 100)) (two_digits (n % 100)) (two_plain (n / 100) (omega arith)) (two_plain (n % 100) (omega arith))
 
-hyphen_plain : is_plain 45 ≡ true
-hyphen_plain = refl
-
 date_text_plain : (year month day : ℕ) → year < 10000 → month < 100 → day < 100 → ArePlain (date_text year month day)
 date_text_plain year month day y m d =
     plain_joined (four_digits year) (45 ∷ two_digits month ++ 45 ∷ two_digits day) (four_plain year y)
-    (hyphen_plain, plain_joined (two_digits month) (45 ∷ two_digits day) (two_plain month m) (hyphen_plain, two_plain day d))
+    (refl, plain_joined (two_digits month) (45 ∷ two_digits day) (two_plain month m) (refl, two_plain day d))
 
 pub date_plain : (d : Date) → IsFourDigitYear d.year → ArePlain (date_spelling d)
 date_plain d within =

@@ -5,7 +5,7 @@ use Rattle.edm_values.specs.DateLiteral.{DateValue}
 use Rattle.edm_values.specs.GuidLiteral.{GuidValue}
 use Rattle.edm_values.specs.MomentLiteral.{MomentValue}
 use Rattle.edm_values.specs.MomentParts.{MomentParts}
-use Rattle.json_tokens.specs.LexemesAt.{IsTextAt}
+use Rattle.json_room.specs.LexemesAt.{IsTextAt}
 use Rattle.room_literals.specs.SureTexts.{IsLiteralAt}
 use Rattle.room_literals.specs.private.SureTexts.{AreWithin, IsDayAt, IsFractionAt, IsGuidAt, IsMinutesAt, IsOffsetAt}
 use Rattle.room_literals.proofs.GuidTexts.{guid_plain}

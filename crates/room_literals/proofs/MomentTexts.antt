@@ -13,9 +13,9 @@ use Rattle.edm_values.specs.DateLiteral.{DateValue, date_spelling, two_digits}
 use Rattle.edm_values.specs.MomentLiteral.{FractionValue, MinutesValue, MomentValue, OffsetValue, SecondsValue, clock_text}
 use Rattle.edm_values.specs.MomentParts.{MomentParts}
 use Rattle.edm_values.proofs.moments.FractionDigits.{fraction_below, small_power}
-use Rattle.json_tokens.specs.private.Lexemes.{DigitsBetween}
-use Rattle.json_tokens.proofs.LexemeLemmas.{cut_digits, cut_long}
-use Rattle.json_tokens.proofs.ShortNumberLemmas.{all_digits}
+use Rattle.json_room.specs.private.Lexemes.{DigitsBetween}
+use Rattle.json_room.proofs.LexemeLemmas.{cut_digits, cut_long}
+use Rattle.json_room.proofs.ShortNumberLemmas.{all_digits}
 use Rattle.room_literals.proofs.LiteralTexts.{ArePlain, date_plain, plain_high, plain_joined, plain_low, two_plain}
 use Rattle.room_literals.specs.private.SureTexts.{AreWithin, IsDayAt, IsFractionAt, IsMinutesAt, IsOffsetAt}
 
@@ -184,12 +184,9 @@ moment_there b i offset to order more room minutes seconds ends =
 
 -- ---- its bytes are plain
 
-digit_plain : (x : ℕ) → digit_value x < 10 → is_plain x ≡ true
-digit_plain x digit = grind (arith, nat_tests)
-
 digits_plain : (s : List ℕ) → AllDigits 10 s → ArePlain s
 digits_plain [] all = tt
-digits_plain (x ∷ s) all = (digit_plain x all.0, digits_plain s all.1)
+digits_plain (x ∷ s) all = (let digit = all.0 in grind (arith, nat_tests), digits_plain s all.1)
 
 clock_plain : (hour minute : ℕ) → hour < 100 → minute < 100 → ArePlain (clock_text hour minute)
 clock_plain hour minute h m = plain_joined (two_digits hour) (58 ∷ two_digits minute) (two_plain hour h) (plain_low 58 (omega arith) (omega arith), two_plain minute m)

@@ -4,10 +4,9 @@ use Rattle.std.specs.Prelude.{◌≡◌, ◌≢◌, ◌⊎◌, ◌<◌, ℕ, Lis
 use Rattle.serde_json.specs.Data.{Data}
 use Rattle.edm_values.specs.MomentParts.{MomentParts}
 use Rattle.csdl_schema.specs.JsonText.{IsJsonOf}
-use Rattle.edm_row_plans.specs.Plans.{IsPlanOf}
-use Rattle.edm_row_plans.specs.PassedNames.{Names, names_passed}
-use Rattle.edm_row_plans.specs.declared.row_plan.RowPlan.{RowPlan}
+use Rattle.edm_rows.specs.RowReading.{Names}
 use Rattle.edm_entities.specs.declared.row_fault.RowFault.{RowFault}
+use Rattle.edm_rows.specs.RowLayout.{LayoutOfRows}
 use Rattle.line_filter.specs.declared.judge.Judgment.{Judgment}
 use Rattle.odata_checked_filter.specs.Filter.{Filter}
 use Rattle.odata_checked_filter.specs.declared.checked_node.NodeKind.{NodeKind}
@@ -28,13 +27,11 @@ pub record PassesNone (filter : Filter) (Passed : Names) : Type 0 where
       ((name : List ℕ) → ¬ Passed name)
       ⊎ ((place : ℕ) → IfSome (slice_get filter.list.nodes place) (λ node. node.kind ≢ NodeKind.It))
 
--- the plan is of the filter's schema and type, and a whole one has that expanded which the filter needs; it passes
--- nothing that the filter names
-pub record IsPlanOfFilter (filter : Filter) (plan : RowPlan) : Type 0 where
-  pub schema : IsPlanOf filter.schema plan
-  pub type_id : plan.type_id ≡ filter.filtered
-  pub whole : IsTrue plan.is_whole → plan.expansion ≡ filter.expansion
-  pub passes : PassesNone filter (names_passed filter.schema plan)
+-- the layout is of the filter's schema and type, and a whole one has that expanded which the filter needs
+pub record IsLayoutOfFilter (filter : Filter) (layout : LayoutOfRows) : Type 0 where
+  pub schema : layout.schema ≡ filter.schema
+  pub type_id : layout.type_id ≡ filter.filtered
+  pub whole : layout.is_whole ≡ true → layout.expansion ≡ filter.expansion
 
 -- the row is a JSON value that fits, and the verdict is the filter's one outcome on it
 pub record HasVerdict (filter : Filter) (now : MomentParts) (row : List ℕ) (verdict : Verdict) : Type 0 where

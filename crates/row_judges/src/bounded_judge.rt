@@ -3,22 +3,21 @@ ghost use Rattle.std.specs.Prelude.{◌≡◌, ℕ, List, true, IfSome};
 ghost use Rattle.serde_json.specs.View.{view};
 ghost use Rattle.csdl_schema.specs.ExpansionView.{paths_in};
 ghost use Rattle.csdl_schema.specs.PathSet.{PropertyPath};
-ghost use Rattle.edm_entities.specs.RowReading.{IsLineBut};
+ghost use Rattle.edm_rows.specs.RowReading.{IsLineBut};
 ghost use Rattle.edm_rows.specs.RowsOfType.{names_unkept, row_held};
 ghost use Rattle.odata_checked_filter.specs.Filter.{tree_of_filter};
 ghost use Rattle.odata_eval.specs.CostsOn.{KeepsBound};
 ghost use Rattle.odata_meaning.specs.MeansOn.{IsTheOutcome};
 ghost use Rattle.odata_eval.specs.VerdictView.{outcome_reported};
 ghost use Rattle.row_judges.specs.FilterRows.{KeepsNames};
-ghost use Rattle.row_judges.specs.RowAnswer.{IsPlanOfFilter};
+ghost use Rattle.row_judges.specs.RowAnswer.{IsLayoutOfFilter};
 ghost use Rattle.row_judges.specs.RowCosts.{ReportsRowWithin};
 ghost use Rattle.row_judges.specs.private.BoundedJudge.{ReportsValueWithin};
-ghost use Rattle.row_judges.specs.private.ValueAnswer.{answer_reported};
 
 use crate::bad_row::BadRow;
 use crate::row_judge::reported;
-use edm_entities::{Entity, RowFault, RowPlan, RowReader};
-use edm_rows::TypeRows;
+use edm_entities::{Entity, RowFault};
+use edm_rows::{LayoutReader, RowLayout, TypeRows};
 use edm_values::Moment;
 use odata_eval::{EvalFault, Verdict, evaluate_within};
 use odata_typing::Checked;
@@ -26,50 +25,31 @@ use serde_json::Value;
 use std::alloc::Global;
 
 /// Judges rows by a filter, each within a bound on its cost. The bound is on the bodies of lambda operators, and the
-/// items of lists within them, that the filter evaluates on the row. The plan is that of the filter
-/// ([`row_plan_of`](crate::row_plan_of)).
+/// items of lists within them, that the filter evaluates on the row.
 #[derive(Drop)]
 pub struct BoundedJudge<'c, 's> {
     pub checked: &'c Checked<'s>,
     pub moment: &'c Moment,
-    pub plan: &'c RowPlan,
     pub most: u64,
 }
 
 impl BoundedJudge<'_, '_> {
     /// Judges a row, one JSON object, as [`judge_row`](crate::judge_row) does without a bound. `None` if the filter
     /// costs more on the row than the bound allows.
-    pub fn judge(&self, reader: &mut RowReader, row: &[u8]) -> Result<Option<Verdict>, BadRow>
-        requires { IsPlanOfFilter self.now.checked.now self.now.plan.now }
+    pub fn judge(
+        &self,
+        layout: &RowLayout<'_>,
+        reader: &mut LayoutReader,
+        row: &[u8],
+    ) -> Result<Option<Verdict>, BadRow>
+        requires { IsLayoutOfFilter self.now.checked.now layout.now }
         ensures { ReportsRowWithin self.now.checked.now self.now.moment.now row.now self.now.most result }
     {
         let alloc = reader.allocator();
-        match self.judge_read(alloc, reader, row) {
-            Some(answer) => reported(answer),
+        match reader.read(layout, row) {
+            Some(entity) => reported(self.judge_entity(alloc, &entity)),
             None => self.judge_by_tree(alloc, row),
         }
-    }
-
-    /// Judges a row that is an entity, without a tree; none where it has to be read through one.
-    fn judge_read(
-        &self,
-        alloc: Global,
-        reader: &mut RowReader,
-        row: &[u8],
-    ) -> Option<Result<Option<Verdict>, EvalFault>>
-        requires { IsPlanOfFilter self.now.checked.now self.now.plan.now }
-        ensures { IfSome result (λ answer. ReportsRowWithin self.now.checked.now self.now.moment.now row.now
-            self.now.most (answer_reported answer)) }
-    {
-        let is_whole = self.plan.is_whole;
-        if !is_whole {
-            return None;
-        }
-        let Some(entity) = reader.read(self.checked.schema(), self.plan, row) else {
-            return None;
-        };
-        let answer = self.judge_entity(alloc, &entity);
-        Some(answer)
     }
 
     /// Judges the row that was read last where it stood.
@@ -103,7 +83,7 @@ impl BoundedJudge<'_, '_> {
     }
 
     /// Judges a row through a tree.
-    fn judge_by_tree(&self, alloc: Global, row: &[u8]) -> Result<Option<Verdict>, BadRow>
+    pub(crate) fn judge_by_tree(&self, alloc: Global, row: &[u8]) -> Result<Option<Verdict>, BadRow>
         ensures { ReportsRowWithin self.now.checked.now self.now.moment.now row.now self.now.most result }
     {
         match Value::from_slice(alloc, row) {

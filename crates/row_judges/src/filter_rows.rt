@@ -8,10 +8,9 @@ ghost use Rattle.row_judges.specs.RowCosts.{ReportsRowWithin};
 use crate::bad_row::BadRow;
 use crate::bounded_judge::BoundedJudge;
 use crate::row_judge::RowJudge;
-use crate::row_verdict::{plan_of, row_plan_of};
+use crate::row_verdict::plan_of;
 use crate::rows_in_place::{keep_filtered, reads_copy};
 use csdl_schema::Schema;
-use edm_entities::{RowPlan, RowReader};
 use edm_rows::{HeldSchema, TypeRows};
 use edm_values::Moment;
 use odata_eval::Verdict;
@@ -23,8 +22,7 @@ use std::sync::Arc;
 /// seen before takes no memory.
 #[derive(Drop)]
 pub struct FilterRows<'s> {
-    plan: RowPlan,
-    reader: RowReader,
+    alloc: Global,
     type_rows: TypeRows<'s>,
     /// The last row, in a copy that has room after it.
     room: Vec<u8>,
@@ -54,8 +52,7 @@ impl<'s> FilterRows<'s> {
         let mut type_rows = TypeRows::new(alloc, schema, plan_of(alloc, checked));
         keep_filtered(&mut type_rows, checked);
         FilterRows {
-            plan: row_plan_of(alloc, checked),
-            reader: RowReader::new(alloc),
+            alloc,
             type_rows,
             room: Vec::new(alloc),
         }
@@ -74,14 +71,14 @@ impl<'s> FilterRows<'s> {
         ensures rows { AreRowsOfFilter checked.now self.new }
     {
         let by = RowJudge {
-            alloc: self.reader.allocator(),
+            alloc: self.alloc,
             checked,
             moment: now,
         };
         if reads_copy(&mut self.type_rows, &mut self.room, row) {
             return by.judge_held(&self.type_rows);
         }
-        by.judge_bytes(&self.plan, &mut self.reader, row)
+        by.judge_by_tree(row)
     }
 
     /// Judges a row within a bound on what it costs, as [`BoundedJudge::judge`] does. `None` if that is not enough. The
@@ -100,12 +97,11 @@ impl<'s> FilterRows<'s> {
         let by = BoundedJudge {
             checked,
             moment: now,
-            plan: &self.plan,
             most,
         };
         if reads_copy(&mut self.type_rows, &mut self.room, row) {
-            return by.judge_held(self.reader.allocator(), &self.type_rows);
+            return by.judge_held(self.alloc, &self.type_rows);
         }
-        by.judge(&mut self.reader, row)
+        by.judge_by_tree(self.alloc, row)
     }
 }

@@ -8,11 +8,11 @@ ghost use Rattle.row_judges.specs.RowJudgment.{JudgesValue, judgment_where};
 ghost use Rattle.row_judges.specs.private.ValueAnswer.{answer_reported};
 
 use crate::row_judge::RowJudge;
-use crate::rows_in_place::{copy_with_room, type_rows_of, whole_tests};
+use crate::rows_in_place::{type_rows_of, whole_tests};
 use collection_items::{JudgesItems, judged_items};
-use edm_rows::{ItemReading, TypeRows, any_value_end};
+use edm_rows::{ItemReading, TypeRows};
 use edm_values::Moment;
-use json_room::{DecodeBuffer, RoomyLine, front_text, has_room};
+use json_room::{DecodeBuffer, RoomyLine, any_value_end, copy_with_room, front_text, has_room};
 use odata_eval::{EvalFault, SlotSieve, Verdict};
 use odata_typing::Checked;
 use std::alloc::Global;

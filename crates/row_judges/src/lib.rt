@@ -28,4 +28,4 @@ pub use item_rows::verdicts_in_place;
 pub use laws::{rows_are_judged_once, rows_are_reported_once};
 pub use row_judge::RowJudge;
 pub use row_line_judge::RowLineJudge;
-pub use row_verdict::{judge_row, row_plan_of};
+pub use row_verdict::{judge_row, row_layout_of};

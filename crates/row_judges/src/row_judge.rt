@@ -10,12 +10,12 @@ ghost use Rattle.odata_checked_filter.specs.Calls.{TakesMemory};
 ghost use Rattle.odata_checked_filter.specs.Filter.{tree_of_filter};
 ghost use Rattle.odata_meaning.specs.MeansOn.{IsTheOutcome};
 ghost use Rattle.odata_eval.specs.VerdictView.{reported_outcome};
-ghost use Rattle.row_judges.specs.RowAnswer.{IsPlanOfFilter, ReportsRow, judgment_reported};
+ghost use Rattle.row_judges.specs.RowAnswer.{ReportsRow, judgment_reported};
 ghost use Rattle.row_judges.specs.RowJudgment.{JudgesValue};
 ghost use Rattle.row_judges.specs.private.ValueAnswer.{ReportsValue, answer_reported};
 
 use crate::bad_row::BadRow;
-use edm_entities::{Entity, RowFault, RowPlan, RowReader};
+use edm_entities::{Entity, RowFault};
 use edm_values::Moment;
 use line_filter::{JudgeItem, Judgment};
 use odata_eval::{EvalFault, Verdict, evaluate};
@@ -82,46 +82,6 @@ impl RowJudge<'_, '_> {
             }
         }
     }
-
-    /// Judges a row: without a tree where it is an entity, else through one.
-    pub(crate) fn judge_bytes(
-        &self,
-        plan: &RowPlan,
-        reader: &mut RowReader,
-        row: &[u8],
-    ) -> Result<Verdict, BadRow>
-        requires { IsPlanOfFilter self.now.checked.now plan.now }
-        ensures { ReportsRow self.now.checked.now self.now.moment.now row.now result }
-    {
-        match self.judge_read(plan, reader, row) {
-            Some(answer) => reported(answer),
-            None => self.judge_by_tree(row),
-        }
-    }
-
-    /// Judges a row that is an entity, without a tree. Where it returns none, the row goes through one: so it does
-    /// also where the plan is not whole.
-    #[inline(always)]
-    pub(crate) fn judge_read(
-        &self,
-        plan: &RowPlan,
-        reader: &mut RowReader,
-        row: &[u8],
-    ) -> Option<Result<Verdict, EvalFault>>
-        requires { IsPlanOfFilter self.now.checked.now plan.now }
-        ensures { IfSome result (λ answer. ReportsRow self.now.checked.now self.now.moment.now row.now
-            (answer_reported answer)) }
-    {
-        let is_whole = plan.is_whole;
-        if !is_whole {
-            return None;
-        }
-        let Some(entity) = reader.read(self.checked.schema(), plan, row) else {
-            return None;
-        };
-        let answer = self.judge_entity(&entity);
-        Some(answer)
-    }
 }
 
 impl JudgeItem for RowJudge<'_, '_> {
@@ -148,7 +108,7 @@ pub(crate) fn reported<V>(answer: Result<V, EvalFault>) -> Result<V, BadRow>
 
 /// What is kept of rows by their verdicts: those on which the filter is true.
 #[inline(always)]
-pub(crate) fn judged_by(verdict: Verdict) -> Judgment<BadRow>
+fn judged_by(verdict: Verdict) -> Judgment<BadRow>
     ensures { judgment_reported (Ok verdict) ≡ Some result }
 {
     match verdict {

@@ -2,10 +2,8 @@ ghost use Rattle.std.specs.Prelude.{◌≡◌};
 ghost use Rattle.row_judges.specs.RowJudgment.{JudgesRow};
 
 use crate::bad_row::BadRow;
-use crate::row_judge::{RowJudge, judged_by, judgment_of};
-use crate::row_verdict::row_plan_of;
+use crate::row_judge::{RowJudge, judgment_of};
 use crate::rows_in_place::{read_at_front, type_rows_of, whole_tests};
-use edm_entities::{RowPlan, RowReader};
 use edm_rows::TypeRows;
 use edm_values::Moment;
 use line_filter::{Judge, Judgment};
@@ -18,9 +16,6 @@ use std::marker::Model;
 #[derive(Drop)]
 pub struct RowLineJudge<'c, 's> {
     rows: RowJudge<'c, 's>,
-    plan: RowPlan,
-    /// None until a line was not read where it stands.
-    reader: Option<Box<RowReader>>,
     type_rows: TypeRows<'s>,
     /// Tests that are the whole filter; none where it has other terms.
     tests: Vec<SlotSieve>,
@@ -40,12 +35,10 @@ impl<'c, 's> Model for RowLineJudge<'c, 's> {
 
     ghost view = { λ j. record { filter = j.rows.checked.now; moment = j.rows.moment.now } };
 
-    ghost use Rattle.row_judges.specs.RowAnswer.{IsPlanOfFilter};
     ghost use Rattle.odata_eval.specs.TrueWhere.{AreWhole};
     ghost use Rattle.row_judges.specs.private.RowsInPlace.{AreRowsOf};
 
-    ghost invariant = { λ j. IsPlanOfFilter j.rows.checked.now j.plan × AreRowsOf j.rows.checked.now j.type_rows
-        × AreWhole j.rows.checked.now j.tests.items };
+    ghost invariant = { λ j. AreRowsOf j.rows.checked.now j.type_rows × AreWhole j.rows.checked.now j.tests.items };
 }
 
 impl<'c, 's> RowLineJudge<'c, 's> {
@@ -63,8 +56,6 @@ impl<'c, 's> RowLineJudge<'c, 's> {
             },
             type_rows: type_rows_of(alloc, checked),
             tests: whole_tests(alloc, checked),
-            plan: row_plan_of(alloc, checked),
-            reader: None,
             room: Vec::new(alloc),
         }
     }
@@ -89,27 +80,6 @@ impl Judge for RowLineJudge<'_, '_> {
 
     #[inline(never)]
     fn judge(&mut self, line: &[u8]) -> Result<Judgment<BadRow>, AllocError> {
-        let Some(reader) = &mut self.reader else {
-            // The first line that is not read is most likely at fault, and then no reader is needed.
-            let judged = judgment_of(self.rows.judge_by_tree(line));
-            if !matches!(judged, Ok(Judgment::Fault(_))) {
-                self.reader = boxed_reader(self.rows.alloc);
-            }
-            return judged;
-        };
-        match self.rows.judge_read(&self.plan, reader, line) {
-            Some(Ok(verdict)) => Ok(judged_by(verdict)),
-            Some(Err(fault)) => judgment_of(Err(BadRow::NoValue(fault))),
-            None => judgment_of(self.rows.judge_by_tree(line)),
-        }
-    }
-}
-
-/// A reader of rows, unless out of memory.
-#[inline(never)]
-fn boxed_reader(alloc: Global) -> Option<Box<RowReader>> {
-    match Box::new(alloc, RowReader::new(alloc)) {
-        Ok(reader) => Some(reader),
-        Err(_) => None,
+        judgment_of(self.rows.judge_by_tree(line))
     }
 }

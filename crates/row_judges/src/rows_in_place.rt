@@ -1,7 +1,7 @@
 //! The reader of a filter's rows where they stand.
 ghost use Rattle.std.specs.Prelude.{◌≡◌, ◌<◌, ◌≤◌, ℕ, List, [], length, slice_get, take, false, true, unwrap_or, All, IfSome, IsTrue};
 ghost use Rattle.std.specs.Str.{IsAscii};
-ghost use Rattle.edm_entities.specs.RowReading.{IsLineBut};
+ghost use Rattle.edm_rows.specs.RowReading.{IsLineBut};
 ghost use Rattle.edm_values.specs.declared.sieve.Sieve.{Sieve};
 ghost use Rattle.edm_rows.specs.RowItems.{IsJsonBut, IsJsonLeftOut};
 ghost use Rattle.edm_rows.specs.RowsOfType.{IsSameButKept, IsSameReader, names_unkept, row_held};
@@ -20,12 +20,12 @@ use crate::row_judge::{RowJudge, judgment_at_once, reported};
 use crate::row_verdict::{names_whole_row, plan_of};
 use edm_entities::what_fits_has_its_type;
 use edm_rows::{HeldSchema, Reading, TypeRows};
-use json_room::{ROOM, has_room};
+use json_room::{copy_with_room, has_room};
 use line_filter::Judgment;
 use odata_eval::{EvalFault, SlotSieve, Verdict, evaluate_with, slot_sieves};
 use odata_meaning::typed_trees_end_once;
 use odata_typing::Checked;
-use std::alloc::{AllocError, Global};
+use std::alloc::Global;
 
 /// The reader of the filter's rows. It keeps the properties that the filter names, and leaves rows out by the tests of
 /// single values that the filter makes. It is made in place, as the judge is.
@@ -91,42 +91,6 @@ pub(crate) fn whole_tests(alloc: Global, checked: &Checked<'_>) -> Vec<SlotSieve
     } else {
         Vec::new(alloc)
     }
-}
-
-/// Copies a line to where it has a line feed and room after it, unless out of memory. What else was there stays.
-#[inline(always)]
-pub(crate) fn copy_with_room(line: &[u8], room: &mut Vec<u8>) -> bool
-    ensures within { IsTrue result → length line.now ≤ length room.new.items }
-    ensures copied { IsTrue result → take (length line.now) room.new.items ≡ line.now }
-{
-    let count = line.len();
-    if room.len() < ROOM || count > room.len() - ROOM {
-        return take_room(line, room);
-    }
-    write_line(room.as_mut_slice(), line);
-    true
-}
-
-/// Writes a line and a line feed over the front of a buffer.
-#[inline(always)]
-fn write_line(room: &mut [u8], line: &[u8])
-    requires { length line.now < length room.old }
-    ensures long { length room.new ≡ length room.old }
-    ensures copied { take (length line.now) room.new ≡ line.now }
-{
-    let (front, rest) = room.split_at_mut(line.len());
-    front.copy_from_slice(line);
-    rest[0] = b'\n';
-}
-
-/// The same in a buffer that is made for it.
-#[inline(never)]
-fn take_room(line: &[u8], room: &mut Vec<u8>) -> bool
-    ensures within { IsTrue result → length line.now ≤ length room.new.items }
-    ensures copied { IsTrue result → take (length line.now) room.new.items ≡ line.now }
-{
-    room.clear();
-    room.extend_from_slice(line).is_ok() && room.extend_from_slice(&[b'\n'; ROOM]).is_ok()
 }
 
 /// What is read of a row in a copy that has room after it. The rows' reader fills the row of the first one from here

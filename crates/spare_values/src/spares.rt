@@ -1,9 +1,7 @@
 //! Values that no row holds any more, to be filled again.
 ghost use Rattle.std.specs.Prelude.{◌≡◌, ◌<◌, ◌≤◌, ℕ, length, take, IsTrue};
-ghost use Rattle.std.specs.Str.{IsUtf8};
-ghost use Rattle.spare_values.specs.StoredTexts.{HoldsText};
 
-use super::stored_texts::{TEXT_ROOM, is_filled_again, overwrite_text, write_text};
+use super::stored_texts::{TEXT_ROOM, is_filled_again};
 use edm_values::Value;
 use std::alloc::Global;
 use std::mem;
@@ -113,29 +111,6 @@ impl Spares {
     {
         let old = mem::replace(value, Value::Null);
         self.keep(spare, old);
-    }
-
-    /// Puts a text into a slot. It is written over the one that stands there, or over a stored one; false where an
-    /// allocation failed.
-    #[inline(always)]
-    pub fn put_text(&mut self, text: &str, value: &mut Value) -> bool
-        ensures utf8 { IsUtf8 text.now }
-        ensures put { IsTrue result → HoldsText value.new text.now }
-    {
-        if is_filled_again(value) {
-            return overwrite_text(text, value);
-        }
-        self.put_over_stored(text, value)
-    }
-
-    #[inline(never)]
-    fn put_over_stored(&mut self, text: &str, value: &mut Value) -> bool
-        ensures { IsTrue result → HoldsText value.new text.now }
-    {
-        if let Some(stored) = self.texts.pop() {
-            *value = stored;
-        }
-        write_text(self.alloc, text, value)
     }
 
     /// Makes sure that a slot holds a record.

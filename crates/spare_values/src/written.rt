@@ -67,18 +67,19 @@ pub fn list_in(value: &mut Value) -> Option<&mut Vec<Value>>
     }
 }
 
-/// Makes a record's values as many as the slots of its type, unless they are more.
+/// Makes a record's values as many as the slots of its type; false where an allocation failed.
 #[inline(always)]
 pub fn fit_count(values: &mut Vec<Value>, count: usize) -> bool
     ensures { IsTrue result → length values.new.items ≡ count }
 {
-    values.len() == count || add_values(values, count)
+    values.len() == count || change_count(values, count)
 }
 
 #[inline(never)]
-fn add_values(values: &mut Vec<Value>, count: usize) -> bool
+fn change_count(values: &mut Vec<Value>, count: usize) -> bool
     ensures { IsTrue result → length values.new.items ≡ count }
 {
+    values.truncate(count);
     'missing: while values.len() < count {
         if values.push(Value::Null).is_err() {
             return false;

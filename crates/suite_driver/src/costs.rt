@@ -1,10 +1,10 @@
 //! What a filter costs on a row.
 use crate::filters::{judged, one_of, spelled, spelled_bad_row};
 use crate::trouble::{Trouble, owned};
-use edm_entities::RowReader;
+use edm_rows::{HeldSchema, LayoutReader};
 use edm_values::Moment;
 use odata_eval::Verdict;
-use odata_filter::{BadRow, BoundedJudge, FilterRows, row_plan_of};
+use odata_filter::{BadRow, BoundedJudge, FilterRows, row_layout_of};
 use odata_typing::Checked;
 use serde_json::Value;
 use std::alloc::Global;
@@ -63,16 +63,15 @@ fn least_bound(
     line: &[u8],
     moment: &Moment,
 ) -> Option<(u64, &'static str)> {
-    let plan = row_plan_of(alloc, checked);
-    let mut reader = RowReader::new(alloc);
+    let layout = row_layout_of(alloc, checked, HeldSchema::Borrowed(checked.schema()));
+    let mut reader = LayoutReader::new(alloc);
     for most in 0..MOST {
         let by = BoundedJudge {
             checked,
             moment,
-            plan: &plan,
             most,
         };
-        if let Some(said) = spelled_within(&by.judge(&mut reader, line)) {
+        if let Some(said) = spelled_within(&by.judge(&layout, &mut reader, line)) {
             return Some((most, said));
         }
     }

@@ -6,7 +6,9 @@ use crate::spelled_numbers::{shown_bad_row, shown_row_fault};
 use crate::trouble::{Trouble, owned};
 use crate::values::push_slots;
 use csdl_schema::{Expansion, Schema, TypeId};
-use edm_entities::{Entity, RowPlan, RowReader};
+use edm_entities::Entity;
+use edm_row_plans::RowPlan;
+use edm_rows::{HeldSchema, LayoutReader, RowLayout};
 use edm_values::Moment;
 use odata_eval::Verdict;
 use odata_typing::{Checked, check_to_store};
@@ -46,8 +48,9 @@ fn by_bytes(alloc: Global, schema: &Schema, id: TypeId, line: &[u8]) -> Result<S
     requires { HoldsType schema.now id }
 {
     let plan = RowPlan::new(alloc, schema, id, &Expansion::none(alloc));
-    let mut reader = RowReader::new(alloc);
-    match reader.read(schema, &plan, line) {
+    let layout = RowLayout::new(alloc, HeldSchema::Borrowed(schema), plan);
+    let mut reader = LayoutReader::new(alloc);
+    match reader.read(&layout, line) {
         Some(entity) => reported(alloc, &entity),
         None => Ok(String::new(alloc)),
     }

@@ -10,13 +10,14 @@ use crate::nodes::{reported_nodes, second_type};
 use crate::spelled_numbers::{shown_bad_row, shown_refusal, shown_row_fault};
 use crate::trouble::{Trouble, owned};
 use csdl_schema::{Schema, SchemaFault, TypeId};
-use edm_entities::{Entity, RowFault, RowReader};
+use edm_entities::{Entity, RowFault};
+use edm_rows::{HeldSchema, LayoutReader};
 use edm_values::{Moment, read_moment};
 use jiff::civil;
 use odata_eval::{EvalFault, Verdict, evaluate};
 use odata_filter::{
     BadRow, FaultKind, FilterRows, Numbered, RunFault, Tally, fault_name, filter_slice, judge_row,
-    row_plan_of,
+    row_layout_of,
 };
 use odata_typing::{Checked, check_to_store};
 use serde_json::Value;
@@ -139,9 +140,9 @@ pub(crate) fn verdict_of_row(
     line: &[u8],
     now: &Moment,
 ) -> Result<Verdict, BadRow> {
-    let plan = row_plan_of(alloc, checked);
-    let mut reader = RowReader::new(alloc);
-    judge_row(checked, now, &plan, &mut reader, line)
+    let layout = row_layout_of(alloc, checked, HeldSchema::Borrowed(checked.schema()));
+    let mut reader = LayoutReader::new(alloc);
+    judge_row(checked, now, &layout, &mut reader, line)
 }
 
 /// The one answer of a line that is judged by what is kept from row to row of the filter, and by that so many times

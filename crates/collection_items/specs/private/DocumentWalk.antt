@@ -1,14 +1,12 @@
 -- For private clauses: a walk over a document, around the items of its member `value`.
 use Rattle.std.specs.Prelude.{◌≡◌, ◌≢◌, ℕ, ◌<◌, ◌≤◌, List, length, get_or, Bool, true, false, None, Some, codes}
 use Rattle.json.specs.Json.{after_end_array, read_key}
+use Rattle.json.specs.Lex.{fresh, after_value, after_comma}
 use Rattle.serde_json.specs.Data.{Data, Items}
 use Rattle.serde_json.specs.View.{items_of}
-use Rattle.json_tokens.specs.declared.lexeme.Turn.TheVariants.{AfterComma, AfterValue, Fresh}
 use Rattle.json_room.specs.Lexemes.{EndsHere, tokens_at}
-use Rattle.edm_entities.specs.private.RowTokens.{ReadsItems}
-use Rattle.edm_rows.specs.private.Held.{PassesTo}
-use Rattle.edm_rows.specs.private.Members.{NamesTo}
-use Rattle.edm_rows.specs.private.MembersSoFar.{MembersUpTo}
+use Rattle.json_room.specs.private.ItemTokens.{ReadsItems}
+use Rattle.json_room.specs.private.ValuesStand.{PassesTo, NamesTo, MembersUpTo}
 use Rattle.collection_items.specs.JudgedItems.{AreJudged, ItemJudge}
 use Rattle.collection_items.specs.declared.document_walk.After.{After}
 use Rattle.collection_items.specs.declared.document_walk.After.TheVariants.{Close, Comma}
@@ -32,7 +30,7 @@ pub record FindsArray (text : List ℕ) (from bracket : ℕ) : Type 0 where
 pub record JudgesArray (judge : ItemJudge) (text : List ℕ) (from : ℕ) (flags : List Bool) (to : ℕ) : Type 0 where
   pub items : List Data
   pub bounds : PassesTo text from to
-  pub read : ReadsItems 125 (tokens_at Fresh text from) (tokens_at AfterValue text to)
+  pub read : ReadsItems 125 (tokens_at fresh text from) (tokens_at after_value text to)
       (λ found. found ≡ items_of items)
   pub judged : AreJudged judge items flags
 
@@ -40,16 +38,16 @@ pub record JudgesArray (judge : ItemJudge) (text : List ℕ) (from : ℕ) (flags
 abbrev pub EndsItem : List ℕ → ℕ → After → Type 0
 EndsItem text end (Comma next) =
     (end < next) × (next ≤ length text) × EndsHere text end
-    × (tokens_at AfterComma text next ≡ tokens_at AfterValue text end)
+    × (tokens_at after_comma text next ≡ tokens_at after_value text end)
 EndsItem text end (Close next) =
     (end < next) × (next ≤ length text) × EndsHere text end
-    × (after_end_array (tokens_at AfterValue text end) ≡ Some (tokens_at AfterValue text next))
+    × (after_end_array (tokens_at after_value text end) ≡ Some (tokens_at after_value text next))
 
 -- the same of a member and the object's brace
 abbrev pub EndsPair : List ℕ → ℕ → After → Type 0
 EndsPair text end (Comma next) =
     (end < next) × (next ≤ length text) × EndsHere text end
-    × (tokens_at AfterComma text next ≡ tokens_at AfterValue text end)
+    × (tokens_at after_comma text next ≡ tokens_at after_value text end)
 EndsPair text end (Close next) =
     (end < next) × (next ≤ length text) × EndsHere text end
-    × (read_key (tokens_at AfterValue text end) ≡ Some (None, tokens_at AfterValue text next))
+    × (read_key (tokens_at after_value text end) ≡ Some (None, tokens_at after_value text next))

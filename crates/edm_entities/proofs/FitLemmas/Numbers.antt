@@ -1,20 +1,18 @@
 -- The rows of the primitive types, by classes of types.
-use Rattle.std.proofs.Common.{◌≡◌, ℕ, ℤ, List, Bool, Some, None, String, Global, string_bytes, refl, ap, ◌∙◌, rules}
-use Rattle.std.specs.Str.{IsUtf8}
+use Rattle.std.proofs.Common.{◌≡◌, ℤ, Some, None, String, Global, string_bytes, refl, rules}
 use Rattle.serde_json.specs.Data.{Data}
 use Rattle.edm_values.specs.Civil.{Date as CivilDate}
 use Rattle.edm_values.specs.MomentParts.{MomentParts}
-use Rattle.edm_values.specs.Val.{boolean, date, moment, member, text}
+use Rattle.edm_values.specs.Val.{date, moment, member, text}
 use Rattle.edm_values.specs.declared.primitive.PrimitiveType.{PrimitiveType}
 use Rattle.edm_values.specs.declared.primitive.PrimitiveType.TheVariants.{Bool as EdmBoolean, Byte, SByte, Int16, Int32, Int64, String as EdmString, Date as EdmDate, DateTimeOffset as EdmDateTimeOffset, Guid as EdmGuid}
-use Rattle.edm_values.specs.declared.value.Value.{Value, Bool as BoolValue, Text, Date, Moment, Enum, the_lemmas}
+use Rattle.edm_values.specs.declared.value.Value.{Text, Date, Moment, Enum, the_lemmas}
 use Rattle.csdl_schema.specs.ExprType.{ExprType}
 use Rattle.csdl_schema.specs.SchemaModel.{Slots}
-use Rattle.edm_entities.specs.FitsPrimitive.{IsPrimitiveFlaw, IsTextValue, wrong_kind}
+use Rattle.edm_entities.specs.FitsPrimitive.{IsPrimitiveFlaw, wrong_kind}
 use Rattle.edm_entities.specs.Row.{val_of}
 use Rattle.edm_entities.specs.private.Scalars.{IsScalar}
 use Rattle.edm_entities.specs.declared.scalar.Scalar.TheVariants.{Other}
-use Rattle.spare_values.specs.StoredTexts.{HoldsText}
 
 -- what is no truth value, number or text is of no primitive type's kind
 pub other_flaw : (type : PrimitiveType) (json : Data) → IsScalar Other json → IsPrimitiveFlaw type json wrong_kind
@@ -29,16 +27,8 @@ other_flaw EdmDate json is = is.2
 other_flaw EdmDateTimeOffset json is = is.2
 other_flaw EdmGuid json is = is.2
 
-pub val_of-Bool : (slots : Slots) (type : ExprType) (b : Bool) → val_of (BoolValue b) slots.properties type ≡ boolean b
-val_of-Bool slots type b = search (rules, the_lemmas)
-
 pub val_of-Text : (slots : Slots) (type : ExprType) (s : String Global) → val_of (Text s) slots.properties type ≡ text (string_bytes s)
 val_of-Text slots type s = search (rules, the_lemmas)
-
--- a text is the value of its bytes
-pub text_is : (v : Value) (s : List ℕ) → HoldsText v s → IsUtf8 s → (slots : Slots) (type : ExprType) → IsTextValue EdmString s (val_of v slots.properties type)
-text_is v s holds utf8 slots type =
-    (utf8, ap (λ (w : Value). val_of w slots.properties type) holds.1 ∙ val_of-Text slots type holds.0 ∙ ap text holds.2)
 
 pub val_of-Date : (slots : Slots) (type : ExprType) (d : CivilDate) → val_of (Date d) slots.properties type ≡ date d
 val_of-Date slots type d = search (rules, the_lemmas)

@@ -4,7 +4,7 @@ use Rattle.std.proofs.lemmas.Int.{ints}
 use Rattle.std.specs.Prelude.{FitsSigned}
 use Rattle.std.specs.Int.{w64}
 use Rattle.serde_json.specs.Data.{Data, Num, unsigned, negative, float, null, boolean, number, string, array, object, Items}
-use Rattle.serde_json.specs.Find.{as_bool, as_number, as_str, as_array, as_null, as_i64, as_u64, as_integer}
+use Rattle.serde_json.specs.Find.{as_str, as_array, as_i64, as_u64, as_integer}
 use Rattle.edm_values.specs.Val.{Val, member}
 use Rattle.edm_enumerations.specs.EnumerationModel.{EnumerationModel}
 use Rattle.csdl_schema.specs.EnumerationText.{IsValueIn, IsOfUnderlying}
@@ -13,30 +13,6 @@ use Rattle.edm_entities.specs.private.Scalars.{IsNumberAs, IsJsonNumber}
 use Rattle.edm_entities.specs.declared.scalar.JsonNumber.{JsonNumber}
 use Rattle.edm_entities.specs.declared.scalar.JsonNumber.TheVariants.{Whole, OutsideInt64, Fraction}
 
-pub text_is : (json : Data) (s : List ℕ) → Some s ≡ as_str json → json ≡ string s
-text_is (string t) s is = cc
-text_is null s is = absurd (cc)
-text_is (boolean b) s is = absurd (cc)
-text_is (number n) s is = absurd (cc)
-text_is (array ds) s is = absurd (cc)
-text_is (object ms) s is = absurd (cc)
-
-pub number_is : (json : Data) (n : Num) → as_number json ≡ Some n → json ≡ number n
-number_is (number m) n is = cc
-number_is null n is = absurd (cc)
-number_is (boolean b) n is = absurd (cc)
-number_is (string t) n is = absurd (cc)
-number_is (array ds) n is = absurd (cc)
-number_is (object ms) n is = absurd (cc)
-
-pub truth_is : (json : Data) (b : Bool) → as_bool json ≡ Some b → json ≡ boolean b
-truth_is (boolean c) b is = cc
-truth_is null b is = absurd (cc)
-truth_is (number n) b is = absurd (cc)
-truth_is (string t) b is = absurd (cc)
-truth_is (array ds) b is = absurd (cc)
-truth_is (object ms) b is = absurd (cc)
-
 pub array_is : (json : Data) (ds : Items) → as_array json ≡ Some ds → json ≡ array ds
 array_is (array es) ds is = cc
 array_is null ds is = absurd (cc)
@@ -44,14 +20,6 @@ array_is (boolean b) ds is = absurd (cc)
 array_is (number n) ds is = absurd (cc)
 array_is (string t) ds is = absurd (cc)
 array_is (object ms) ds is = absurd (cc)
-
-pub null_is : (json : Data) → is_some (as_null json) ≡ true → json ≡ null
-null_is null is = refl
-null_is (boolean b) is = absurd (cc)
-null_is (number n) is = absurd (cc)
-null_is (string t) is = absurd (cc)
-null_is (array ds) is = absurd (cc)
-null_is (object ms) is = absurd (cc)
 
 -- ---- numbers
 
@@ -86,10 +54,6 @@ pub number_no_text : (n : JsonNumber) (json : Data) → IsJsonNumber n json → 
 number_no_text (Whole z) json is = no_text_as json is.0 _ is.1
 number_no_text OutsideInt64 json is = no_text_as json is.0 _ is.1
 number_no_text Fraction json is = no_text_as json is.0 _ is.1
-
--- a number that is there, as far as it is a whole one
-pub number_there : (n : JsonNumber) (json : Data) (m : Num) → Some m ≡ as_number json → IsJsonNumber n (number m) → IsJsonNumber n json
-number_there n json m there is = subst (IsJsonNumber n) (sym (number_is json m (sym there))) is
 
 -- ---- texts of enumerations
 

@@ -32,11 +32,32 @@ item_within [] n v at = absurd (cc)
 item_within (w ∷ values) zero v at = let same : w ≡ v = cc in subst (λ (x : Value). depth (view x) ≤ max (depth (view w)) (items_depth (items_view values))) same (omega arith)
 item_within (w ∷ values) (suc n) v at = let within = item_within values n v at in omega arith
 
+-- how deep the JSON nests counts first, and at one depth the rank of the call: each call is of a lower rank there, or of a value that nests
+-- less deep
+abbrev pub measure_of : ℕ → ℕ → ℕ
+measure_of deep rank = 4 * deep + rank
+
+-- what was found, or items
+abbrev pub rank_found : ℕ
+rank_found = 4
+
+-- a single value, or an array
+abbrev pub rank_single : ℕ
+rank_single = 3
+
+-- a value that is not null
+abbrev pub rank_value : ℕ
+rank_value = 2
+
+-- the slots of an object
+abbrev pub rank_slots : ℕ
+rank_slots = 1
+
 -- what is left for a walk over what was found
 abbrev pub found_measure : Option Data → ℕ
 found_measure None = 0
-found_measure (Some d) = 4 * depth d + 4
+found_measure (Some d) = measure_of (depth d) rank_found
 
-pub found_less : (name : List ℕ) (json : Data) (found : Option Data) → found ≡ get name json → found_measure found < 4 * depth json + 1
+pub found_less : (name : List ℕ) (json : Data) (found : Option Data) → found ≡ get name json → found_measure found < measure_of (depth json) rank_slots
 found_less name json None is = omega arith
 found_less name json (Some d) is = let within : depth d < depth json = get_within name json d (let turned = is in cc) in omega arith

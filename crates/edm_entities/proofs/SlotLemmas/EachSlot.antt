@@ -1,5 +1,5 @@
 -- Values hold one value for each slot of their records, null in the slots that are not looked at.
-use Rattle.std.proofs.Common.{◌≡◌, ℕ, List, [], ◌∷◌, ◌++◌, Bool, true, false, cond, ◌&&◌, map, Option, Some, None, IfSome, Vec, Global, refl, rules, sym, ap, ◌∙◌, subst}
+use Rattle.std.proofs.Common.{◌≡◌, ℕ, List, [], ◌∷◌, ◌++◌, Bool, true, false, cond, ◌&&◌, map, Option, Some, None, Vec, Global, refl, rules, sym, ap, ◌∙◌, subst}
 use Rattle.serde_json.specs.Data.{Data}
 use Rattle.edm_values.specs.Val.{Val, fields, items, FieldVal, Vals}
 use Rattle.edm_values.specs.declared.primitive.PrimitiveType.{PrimitiveType}
@@ -8,9 +8,7 @@ use Rattle.edm_values.specs.declared.value.Value.{Value, Null, Bool as BoolValue
 use Rattle.edm_values.specs.declared.value.Value as views
 use Rattle.edm_enumerations.specs.EnumerationModel.{EnumerationModel}
 use Rattle.csdl_schema.specs.ExprType.{ExprType, null_type, single, collection, SingleType, primitive, enumeration, structured}
-use Rattle.csdl_schema.specs.PropertyView.{IsReadAs, property_type}
-use Rattle.csdl_schema.specs.SchemaModel.{SchemaModel, Slots, PropertyModel, PropertyType, declared, opaque, navigation}
-use Rattle.csdl_schema.specs.declared.property.Property.{Property}
+use Rattle.csdl_schema.specs.SchemaModel.{Slots, PropertyModel, PropertyType, declared, opaque, navigation}
 use Rattle.edm_entities.specs.FitsPrimitive.{FitsNumber, FitsPrimitive, FitsText, IsMemberText}
 use Rattle.edm_entities.specs.HoldsEachSlot.{HoldsEachSlot, holding_of, items_hold, list_holds, record_holds, slots_hold}
 use Rattle.edm_entities.specs.Row.{ValAtType, val_of, val_step}
@@ -138,11 +136,6 @@ holds_push slots type (w ∷ values) v holds here =
 
 -- ---- properties as the code reads them
 
-pub slot_as_read : (schema : SchemaModel) (slots : Slots) (o : Option PropertyModel) (property : Property) (v : Value) → IfSome o (λ p. IsReadAs schema p property)
-    → HoldsInSlot slots (property_type schema property) v → IfSome o (λ p. HoldsInSlot slots p.type_of v)
-slot_as_read schema slots None property v is holds = tt
-slot_as_read schema slots (Some p) property v is holds = subst (λ (type : PropertyType). HoldsInSlot slots type v) is.type_of holds
-
 -- a property of that kind is looked at, and its value is of the type: of a navigation property, where it is expanded
 abbrev pub IsLookedAt : Slots → PropertyType → ExprType → Type 0
 IsLookedAt slots (declared t) type = t ≡ type
@@ -157,10 +150,6 @@ held_seen slots opaque wanted v is holds = absurd is
 held_seen slots (navigation None) wanted v is holds = absurd is
 held_seen slots (navigation (Some type)) wanted v is holds =
     subst (λ (b : Bool). cond b ((holding_of v).holds slots type) (holding_of v).is_null ≡ true) (sym is.0) (subst (λ (t : ExprType). HoldsEachSlot v slots t) (sym is.1) holds)
-
--- a value of a property by what it is read as
-pub held_as : (slots : Slots) (type : PropertyType) (wanted : ExprType) (v : Value) → type ≡ declared wanted → HoldsEachSlot v slots wanted → HoldsInSlot slots type v
-held_as slots type wanted v is holds = subst (λ (t : PropertyType). HoldsInSlot slots t v) (sym is) holds
 
 -- a value of a type by another name
 pub holds_as : (slots : Slots) (type other : SingleType) (v : Value) → type ≡ other → HoldsEachSlot v slots (single other) → HoldsEachSlot v slots (single type)

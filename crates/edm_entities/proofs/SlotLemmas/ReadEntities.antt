@@ -9,7 +9,7 @@ use Rattle.csdl_schema.specs.PathSet.{PropertyPath, no_paths}
 use Rattle.csdl_schema.specs.ExprType.{ExprType, single, structured}
 use Rattle.csdl_schema.specs.SchemaModel.{SchemaModel, Slots, HasDistinctNames, HoldsType, expanded, slots_of, type_name_at, properties_at}
 use Rattle.edm_entities.specs.Fits.{Fits, FitsType}
-use Rattle.edm_entities.specs.Row.{IsEntity, Row, expanded_by, row_of, val_of, record_of, list_of, value_of}
+use Rattle.edm_entities.specs.Row.{IsEntity, expanded_by, row_of, val_of, record_of, list_of, value_of}
 use Rattle.edm_entities.specs.private.Walk.{FitsSlot, FitSlots}
 use Rattle.edm_entities.proofs.SlotLemmas.EachSlot.{slots_held}
 use Rattle.edm_entities.proofs.SlotLemmas.SlotsByName.{record_fits, as_many}
@@ -49,7 +49,3 @@ pub unexpanded : (schema : SchemaModel) (expansion : List StepModel) → ((path 
 unexpanded schema expansion none =
     let same : no_paths ≡ paths_in expansion = fun_ext (λ path. sym (none path)) in
     ap (expanded (slots_of schema)) same
-
--- a row of a type with that value
-abbrev pub borrowed_row : SchemaModel → ℕ → List StepModel → Value → Row
-borrowed_row schema id steps value = record { schema = schema; type_id = id; expansion = steps; value = value }

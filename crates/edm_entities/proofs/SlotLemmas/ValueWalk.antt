@@ -1,5 +1,5 @@
 -- The values that the walk makes: of leaves, records and arrays.
-use Rattle.std.proofs.Common.{◌≡◌, ℕ, List, [], ◌∷◌, Bool, true, false, Option, Some, None, is_some, Result, IfOk, IfErr, Vec, Global, refl, sym, ap, ◌∙◌, subst}
+use Rattle.std.proofs.Common.{◌≡◌, ℕ, List, [], ◌∷◌, Bool, false, Option, Some, None, is_some, Result, IfOk, IfErr, Vec, Global, refl, sym, ap, subst}
 use Rattle.serde_json.specs.Data.{Data, array, Items}
 use Rattle.serde_json.specs.Find.{as_array, as_null}
 use Rattle.edm_values.specs.declared.value.Value.{Value, List as ListOf}
@@ -79,6 +79,3 @@ array_fault slots nullable type json jsons reported is fault =
 pub none_of : {X : Type 0} (o : Option X) (b : Bool) → b ≡ is_some o → b ≡ false → o ≡ None
 none_of (Some x) b is none = absurd (cc)
 none_of None b is none = refl
-
-pub some_of : {X : Type 0} (o : Option X) (b : Bool) → b ≡ is_some o → b ≡ true → is_some o ≡ true
-some_of o b is some = sym is ∙ some

@@ -1,13 +1,12 @@
 -- For private clauses: what the walk over an object's slots and an array's items has read so far.
-use Rattle.std.specs.Prelude.{◌≡◌, ℕ, List, [], ◌∷◌, Bool, true, Option, map}
-use Rattle.serde_json.specs.Data.{Data, Items}
-use Rattle.serde_json.specs.Find.{get}
+use Rattle.std.specs.Prelude.{◌≡◌, List, Bool, true, map}
+use Rattle.serde_json.specs.Data.{Items}
 use Rattle.edm_values.specs.declared.value.Value.{Value}
 use Rattle.csdl_schema.specs.ExprType.{SingleType, primitive, enumeration, structured}
-use Rattle.csdl_schema.specs.SchemaModel.{SchemaModel, Slots, PropertyModel, PropertyType, slots_behind, type_name_at}
-use Rattle.edm_entities.specs.Fits.{FitsProperty, FitItems}
-use Rattle.edm_entities.specs.HoldsEachSlot.{holding_of, items_hold, slot_holds}
-use Rattle.edm_entities.specs.Row.{field_of, items_of, val_of}
+use Rattle.csdl_schema.specs.SchemaModel.{SchemaModel, Slots, type_name_at}
+use Rattle.edm_entities.specs.Fits.{FitItems}
+use Rattle.edm_entities.specs.HoldsEachSlot.{holding_of, items_hold}
+use Rattle.edm_entities.specs.Row.{items_of, val_of}
 use Rattle.edm_row_plans.specs.declared.wanted.Wanted.{Wanted}
 use Rattle.edm_row_plans.specs.declared.wanted.Wanted.TheVariants.{Prim, Enum, Complex}
 pub use Rattle.edm_entities.specs.ValuesRead.{FitSlots, FitsSlot, HoldEach, HoldsInSlot}

@@ -1,18 +1,20 @@
 -- For private clauses: what a walk over a line looks at, and what it passes.
 use Rattle.std.specs.Prelude.{◌≡◌, ℕ, Option, None, Some, option_map, slice_get}
+use Rattle.json.specs.Lex.{fresh, after_value}
 use Rattle.serde_json.specs.Data.{object}
 use Rattle.csdl_schema.specs.SchemaModel.{Slots, properties_at}
 use Rattle.edm_row_plans.specs.Expanded.{slots_at}
-use Rattle.edm_entities.specs.private.Passed.{FitSomeItems, FitSomeSlots}
-use Rattle.edm_entities.specs.private.RowTokens.{ReadsItems, ReadsMembers}
-use Rattle.json_tokens.specs.declared.lexeme.Turn.TheVariants.{Fresh, AfterValue}
+use Rattle.edm_rows.specs.private.Passed.{FitSomeItems, FitSomeSlots}
+use Rattle.json_room.specs.private.ItemTokens.{ReadsItems, ReadsMembers}
 use Rattle.json_room.specs.Lexemes.{tokens_at}
 use Rattle.edm_rows.specs.declared.passed_value.ReadContext.{ReadContext}
 use Rattle.edm_rows.specs.declared.members.Found.{Found}
 use Rattle.edm_rows.specs.declared.row_types.RowSlot.{RowSlot}
 use Rattle.edm_rows.specs.declared.row_types.RowType.{RowType}
 use Rattle.edm_rows.specs.declared.row_types.Task.{Task}
-use Rattle.edm_rows.specs.private.Held.{IsHeldTo, PassesTo, ReadsTo, type_of}
+use Rattle.json_room.specs.ValueStands.{ValueStands}
+use Rattle.json_room.specs.private.ValuesStand.{PassesTo}
+use Rattle.edm_rows.specs.private.Held.{IsHeldTo, type_of}
 use Rattle.edm_rows.specs.private.KnownTexts.{AreKnown}
 use Rattle.edm_rows.specs.private.Members.{NamesSlot, PassesOther}
 use Rattle.edm_rows.specs.private.RowSlots.{AreRowTypes, kinds_of}
@@ -31,14 +33,14 @@ slots_behind_node context node = slots_at context.schema.now context.plan.now.ex
 -- task
 abbrev pub PassesValue : ReadContext → RowSlot → Task → ℕ → ℕ → ℕ → Type 0
 PassesValue context slot task depth from to =
-    ReadsTo depth context.line from to (IsHeldTo (slots_behind_node context slot.node)
+    ValueStands depth context.line from to (IsHeldTo (slots_behind_node context slot.node)
     (kinds_of context.schema.now context.plan.now.plans.items slot) slot.is_nullable slot.item task)
 
 -- after an opening bracket the items of a slot's array stand from one offset to the other, with the closing one
 abbrev pub PassesItems : ReadContext → RowSlot → ℕ → ℕ → ℕ → Type 0
 PassesItems context slot depth from to =
     PassesTo context.line from to
-    × ReadsItems depth (tokens_at Fresh context.line from) (tokens_at AfterValue context.line to)
+    × ReadsItems depth (tokens_at fresh context.line from) (tokens_at after_value context.line to)
     (FitSomeItems (slots_behind_node context slot.node) slot.is_nullable
     (type_of (kinds_of context.schema.now context.plan.now.plans.items slot) slot.item))
 
@@ -46,7 +48,7 @@ PassesItems context slot depth from to =
 abbrev pub PassesMembers : ReadContext → RowType → ℕ → ℕ → ℕ → Type 0
 PassesMembers context type depth from to =
     PassesTo context.line from to
-    × ReadsMembers depth (tokens_at Fresh context.line from) (tokens_at AfterValue context.line to)
+    × ReadsMembers depth (tokens_at fresh context.line from) (tokens_at after_value context.line to)
     (λ found. FitSomeSlots (slots_behind_node context type.node) (properties_at context.schema.now type.type_id)
     (object found))
 

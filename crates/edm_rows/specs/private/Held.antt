@@ -1,5 +1,5 @@
 -- For private clauses: what a value of a line is held to where it stands.
-use Rattle.std.specs.Prelude.{◌≡◌, ◌≢◌, ℕ, ℤ, ◌<◌, ◌≤◌, List, length, Bool, false, true, Some}
+use Rattle.std.specs.Prelude.{◌≡◌, ◌≢◌, ℕ, ℤ, List, Bool, false, Some}
 use Rattle.serde_json.specs.Data.{Data, Num}
 use Rattle.serde_json.specs.Find.{as_integer}
 use Rattle.serde_json.specs.Read.{number_of}
@@ -9,13 +9,8 @@ use Rattle.csdl_schema.specs.SchemaModel.{Slots}
 use Rattle.edm_values.specs.declared.primitive.PrimitiveType.{PrimitiveType}
 use Rattle.edm_values.specs.declared.primitive.PrimitiveType.TheVariants as prim
 use Rattle.edm_values.specs.declared.value.Value.{Value, Null}
-use Rattle.json_tokens.specs.private.Lexemes.{may_begin_at}
-use Rattle.json_tokens.specs.declared.lexeme.Turn.{Turn}
-use Rattle.json_tokens.specs.declared.lexeme.Turn.TheVariants.{AfterValue}
-use Rattle.json_room.specs.Lexemes.{EndsHere, tokens_at}
-use Rattle.edm_entities.specs.private.Passed.{FitsSome}
+use Rattle.edm_rows.specs.private.Passed.{FitsSome, FitsNullable}
 use Rattle.edm_entities.specs.HoldsEachSlot.{HoldsEachSlot}
-use Rattle.edm_entities.specs.private.RowTokens.{FitsNullable, Reads}
 use Rattle.edm_rows.specs.declared.row_types.Task.{Task}
 use Rattle.edm_rows.specs.declared.row_types.Task.TheVariants.{Text, Number, Truth, Date, Moment, Guid, Member, Record, Items, Any}
 
@@ -59,17 +54,6 @@ FilledAs slots kinds nullable inner Items value json =
     IsFilled slots false nullable (collection (type_of kinds inner)) value json
 FilledAs slots kinds nullable inner task value json =
     IsFilled slots nullable nullable (single (type_of kinds task)) value json
-
--- a value stands in a line from one offset, where one may begin, to the other, if it may end there, nested no deeper
--- than that, and P holds of it
-pub record ReadsTo (depth : ℕ) (line : List ℕ) (from to : ℕ) (P : Data → Type 0) : Type 0 where
-  pub bounds : (from < to) × (to ≤ length line)
-  pub reads : (turn : Turn) → may_begin_at turn ≡ true → EndsHere line to
-      → Reads depth (tokens_at turn line from) (tokens_at AfterValue line to) P
-
--- from one offset on, after an opening bracket or brace, up to the other
-abbrev pub PassesTo : List ℕ → ℕ → ℕ → Type 0
-PassesTo line from to = (from < to) × (to ≤ length line)
 
 -- a task of a value by itself
 abbrev pub IsSingle : Task → Type 0

@@ -2,23 +2,23 @@
 use Rattle.std.specs.Prelude.{◌≡◌, ◌⊎◌, ◌+◌, ◌≤◌, ℕ, length, List, [], ◌∷◌, true, false, Some, map, slice_get, Bool, Vec}
 use Rattle.std.specs.declared.alloc.Global.{Global}
 use Rattle.serde_json.specs.Data.{Members, object}
-use Rattle.json_tokens.specs.LexemesAt.{PassesSpaces}
+use Rattle.json_room.specs.LexemesAt.{PassesSpaces}
 use Rattle.csdl_schema.specs.ExpansionView.{StepModel}
 use Rattle.csdl_schema.specs.SchemaModel.{SchemaModel, properties_at}
 use Rattle.edm_row_plans.specs.Expanded.{slots_at}
 use Rattle.edm_row_plans.specs.Plans.{IsPlanOf}
 use Rattle.edm_row_plans.specs.declared.row_plan.RowPlan.{RowPlan}
 use Rattle.edm_row_plans.specs.declared.type_plan.TypePlan.{TypePlan}
-use Rattle.edm_entities.specs.private.Passed.{IsRowValue}
+use Rattle.edm_rows.specs.private.Passed.{IsRowValue}
 use Rattle.edm_rows.specs.HeldSchema.{schema_in}
-use Rattle.edm_rows.specs.RowItems.{IsJsonBut, IsJsonLeftOut, ValueStands}
+use Rattle.json_room.specs.ValueStands.{ValueStands}
+use Rattle.edm_rows.specs.RowItems.{IsJsonBut, IsJsonLeftOut}
 use Rattle.edm_rows.specs.RowsOfType.{RowsOfType, names_unkept, row_held}
 use Rattle.edm_values.specs.declared.sieve.Sieve.{Sieve}
 use Rattle.edm_values.specs.declared.value.Value.{Value, Record}
 use Rattle.edm_rows.specs.declared.kept_leaf.Taken.{Taken}
 use Rattle.edm_rows.specs.declared.kept_leaf.Taken.TheVariants.{Broken, Nothing, Put, Rejected}
 use Rattle.edm_rows.specs.declared.passed_value.ReadContext.{ReadContext}
-use Rattle.edm_rows.specs.private.Held.{ReadsTo}
 use Rattle.edm_rows.specs.private.KeptRows.{TakesFound, TakesRow}
 use Rattle.edm_rows.specs.declared.row_types.RowSlot.{RowSlot}
 use Rattle.edm_rows.specs.declared.row_types.RowType.{RowType}
@@ -103,7 +103,7 @@ abbrev pub ReadsObject : ReadContext → Bool → Value → ℕ → ℕ → Type
 ReadsObject context is_left_out row from to =
     (values : Vec Value Global) × (row ≡ Record values)
     × ((type : RowType) × (slice_get context.types.now 0 ≡ Some type)
-    × ReadsTo (context.depth + 1) context.line from to (λ json. (found : Members) × (json ≡ object found)
+    × ValueStands (context.depth + 1) context.line from to (λ json. (found : Members) × (json ≡ object found)
     × TakesFound context type is_left_out values.items found))
 
 -- what became of the row that begins at an offset

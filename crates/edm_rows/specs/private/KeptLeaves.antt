@@ -8,11 +8,10 @@ use Rattle.edm_values.specs.Val.{Val}
 use Rattle.edm_values.specs.declared.sieve.Sieve.{Sieve}
 use Rattle.edm_values.specs.declared.value.Value.{Value}
 use Rattle.edm_entities.specs.Fits.{FitsFound, FitsType}
-use Rattle.edm_entities.specs.private.Passed.{FitsSomeHowever}
-use Rattle.edm_entities.specs.private.RowTokens.{FitsHoweverNullable}
+use Rattle.edm_rows.specs.private.Passed.{FitsSomeHowever, FitsHoweverNullable}
 use Rattle.edm_rows.specs.declared.kept_leaf.Taken.{Taken}
 use Rattle.edm_rows.specs.declared.kept_leaf.Taken.TheVariants.{Broken, Nothing, Put, Rejected}
-use Rattle.edm_rows.specs.private.Held.{ReadsTo}
+use Rattle.json_room.specs.ValueStands.{ValueStands}
 
 -- the value is read of some JSON of that type
 abbrev pub IsLeafOf : SingleType → Value → Type 0
@@ -22,13 +21,13 @@ IsLeafOf type value = (json : Data) × ((slots : Slots) → FitsHoweverNullable 
 abbrev pub PutsLeaf : List ℕ → SingleType → Value → ℕ → ℕ → Type 0
 PutsLeaf line type value from to =
     IsLeafOf type value
-    × ((slots : Slots) (depth : ℕ) → ReadsTo depth line from to (FitsHoweverNullable slots (single type) value))
+    × ((slots : Slots) (depth : ℕ) → ValueStands depth line from to (FitsHoweverNullable slots (single type) value))
 
 -- a value of the enumeration of that name stands from one offset to the other
 abbrev pub PutsMember : List ℕ → Slots → List ℕ → Value → ℕ → ℕ → Type 0
 PutsMember line slots name value from to =
     ((json : Data) × FitsHoweverNullable slots (single (enumeration name)) value json)
-    × ((depth : ℕ) → ReadsTo depth line from to (FitsHoweverNullable slots (single (enumeration name)) value))
+    × ((depth : ℕ) → ValueStands depth line from to (FitsHoweverNullable slots (single (enumeration name)) value))
 
 -- JSON of that type, each of whose values is rejected
 abbrev pub IsLeafRejected : Slots → SingleType → Sieve → Data → Type 0
@@ -45,4 +44,4 @@ TakesLeaf line type sieve old new from Nothing = new ≡ old
 TakesLeaf line type sieve old new from Broken = Unit {0}
 TakesLeaf line type sieve old new from (Put to) = PutsLeaf line type new from to
 TakesLeaf line type sieve old new from (Rejected to) =
-    ((slots : Slots) (depth : ℕ) → ReadsTo depth line from to (IsLeafRejected slots type sieve)) × (new ≡ old)
+    ((slots : Slots) (depth : ℕ) → ValueStands depth line from to (IsLeafRejected slots type sieve)) × (new ≡ old)

@@ -1,5 +1,6 @@
 -- For private clauses: a row that is filled again, while the members of a line are read into it.
 use Rattle.std.specs.Prelude.{◌≡◌, ◌⊎◌, ℕ, List, Bool, true, false, Some, IfSome, MatchBool, map, slice_get}
+use Rattle.json.specs.Lex.{fresh, after_value}
 use Rattle.json_room.specs.Lexemes.{tokens_at}
 use Rattle.serde_json.specs.Data.{Data, Members, object}
 use Rattle.serde_json.specs.Find.{get_member}
@@ -9,22 +10,22 @@ use Rattle.edm_values.specs.Val.{FieldVal, Val, present}
 use Rattle.edm_values.specs.declared.sieve.Sieve.{Sieve}
 use Rattle.edm_values.specs.declared.value.Value.{Value}
 use Rattle.edm_row_plans.specs.Expanded.{slots_at}
-use Rattle.edm_row_plans.specs.PassedNames.{Names}
+use Rattle.edm_rows.specs.RowReading.{Names}
 use Rattle.edm_row_plans.specs.Plans.{IsPlanOf, IsSlotPlan}
 use Rattle.edm_row_plans.specs.declared.type_plan.SlotPlan.{SlotPlan}
 use Rattle.edm_row_plans.specs.declared.type_plan.TypePlan.{TypePlan}
 use Rattle.edm_entities.specs.Fits.{FitsProperty}
 use Rattle.edm_entities.specs.Row.{ValAtType, val_of}
-use Rattle.edm_entities.specs.private.Passed.{FitSlotsBut, FitSomeSlots, FitsSeen}
-use Rattle.edm_entities.specs.private.RowTokens.{ReadsMembers}
-use Rattle.json_tokens.specs.declared.lexeme.Turn.TheVariants.{AfterValue, Fresh}
+use Rattle.edm_rows.specs.private.Passed.{FitSlotsBut, FitSomeSlots, FitsSeen}
+use Rattle.json_room.specs.private.ItemTokens.{ReadsMembers}
 use Rattle.edm_entities.specs.private.Walk.{FitSlots, HoldsInSlot}
 use Rattle.edm_rows.specs.declared.passed_value.ReadContext.{ReadContext}
 use Rattle.edm_rows.specs.declared.row_types.RowSlot.{RowSlot}
 use Rattle.edm_rows.specs.declared.row_types.RowType.{RowType}
 use Rattle.edm_rows.specs.declared.kept_leaf.Taken.{Taken}
 use Rattle.edm_rows.specs.declared.kept_leaf.Taken.TheVariants.{Broken, Nothing, Put, Rejected}
-use Rattle.edm_rows.specs.private.Held.{PassesTo, ReadsTo}
+use Rattle.json_room.specs.ValueStands.{ValueStands}
+use Rattle.json_room.specs.private.ValuesStand.{PassesTo}
 use Rattle.edm_rows.specs.private.RowSlots.{IsRowSlot, IsRowType}
 
 -- ---- the row's own type
@@ -89,10 +90,10 @@ IsRejectedIn context slot sieve json =
 abbrev pub TakesValue : ReadContext → RowSlot → ℕ → Value → Value → ℕ → Taken → Type 0
 TakesValue context slot depth old new from Nothing = Unit {0}
 TakesValue context slot depth old new from Broken = Unit {0}
-TakesValue context slot depth old new from (Put to) = ReadsTo depth context.line from to (FitsSlotAs context slot
+TakesValue context slot depth old new from (Put to) = ValueStands depth context.line from to (FitsSlotAs context slot
     (val_of new))
 TakesValue context slot depth old new from (Rejected to) =
-    ReadsTo depth context.line from to (IsRejectedIn context slot slot.sieve) × (new ≡ old)
+    ValueStands depth context.line from to (IsRejectedIn context slot slot.sieve) × (new ≡ old)
 
 -- ---- the row
 
@@ -128,7 +129,7 @@ TakesFound context type is_left_out values found =
 abbrev pub ReadsRow : ReadContext → RowType → Bool → List Value → ℕ → ℕ → Type 0
 ReadsRow context type is_left_out values from to =
     PassesTo context.line from to
-    × ReadsMembers context.depth (tokens_at Fresh context.line from) (tokens_at AfterValue context.line to)
+    × ReadsMembers context.depth (tokens_at fresh context.line from) (tokens_at after_value context.line to)
     (TakesFound context type is_left_out values)
 
 -- what became of a row

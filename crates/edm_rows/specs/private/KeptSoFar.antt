@@ -5,15 +5,14 @@ use Rattle.std.specs.Int.{bit_at}
 use Rattle.serde_json.specs.Data.{Data, Members}
 use Rattle.serde_json.specs.Find.{get_member}
 use Rattle.edm_values.specs.declared.value.Value.{Value, Null}
-use Rattle.edm_entities.specs.private.Passed.{MayBeAbsent, PassedSoFar, SlotsSoFarBut}
-use Rattle.edm_rows.specs.declared.kept_value.Progress.{Progress}
+use Rattle.edm_rows.specs.private.Passed.{MayBeAbsent, PassedSoFar, SlotsSoFarBut}
 use Rattle.edm_rows.specs.declared.kept_value.Step.{Step}
 use Rattle.edm_rows.specs.declared.kept_value.Step.TheVariants.{Broken, Nothing, Read, Rejected}
 use Rattle.edm_rows.specs.declared.passed_value.ReadContext.{ReadContext}
 use Rattle.edm_rows.specs.declared.row_types.RowSlot.{RowSlot}
 use Rattle.edm_rows.specs.declared.row_types.RowType.{RowType}
 use Rattle.edm_rows.specs.private.KeptRows.{IsRejectedIn, names_unkept_in, root_properties, root_slots}
-use Rattle.edm_rows.specs.private.MembersSoFar.{MembersRead, MembersUpTo}
+use Rattle.json_room.specs.private.ValuesStand.{MembersRead, MembersUpTo}
 
 -- a slot is filled where its bit is set
 pub record SameMarks (seen : ℕ) (filled : List Bool) : Type 0 where
@@ -58,28 +57,19 @@ pub record KeptRead
   pub marks : SameMarks seen filled
   pub members : MembersRead context.depth context.line from end (SoFar context rows is_left_out seen filled values)
 
--- the same of how far it was read
-abbrev pub IsUpTo : ReadContext → RowType → Bool → ℕ → List Value → Progress → Type 0
-IsUpTo context type is_left_out from values so_far =
-    KeptUpTo context type.slots.items from so_far.place so_far.seen is_left_out values
+-- what became of a member: the members were read up to an offset, and its value was put or is rejected
+abbrev pub StepsTo : ReadContext → RowType → ℕ → ℕ → ℕ → List Value → Step → Type 0
+StepsTo context type from end seen values Read = KeptRead context type.slots.items from end seen false values
+StepsTo context type from end seen values Rejected = KeptRead context type.slots.items from end seen true values
+StepsTo context type from end seen values Nothing = Unit {0}
+StepsTo context type from end seen values Broken = Unit {0}
 
-abbrev pub IsReadTo : ReadContext → RowType → Bool → ℕ → List Value → Progress → Type 0
-IsReadTo context type is_left_out from values read =
-    KeptRead context type.slots.items from read.place read.seen is_left_out values
-
--- what became of a member: the members were read up to its end, and its value was put or is rejected
-abbrev pub StepsTo : ReadContext → RowType → ℕ → List Value → Step → Type 0
-StepsTo context type from values (Read read) = IsReadTo context type false from values read
-StepsTo context type from values (Rejected read) = IsReadTo context type true from values read
-StepsTo context type from values Nothing = Unit {0}
-StepsTo context type from values Broken = Unit {0}
-
--- a member that was read ends after that offset
-abbrev pub StepsFrom : ℕ → Step → Type 0
-StepsFrom place (Read read) = (place < read.place) × (read.order < 256)
-StepsFrom place (Rejected read) = (place < read.place) × (read.order < 256)
-StepsFrom place Nothing = Unit {0}
-StepsFrom place Broken = Unit {0}
+-- a member that was read ends after an offset, and the order of those after it is kept somewhere
+abbrev pub StepsFrom : ℕ → ℕ → ℕ → Step → Type 0
+StepsFrom place end order Read = (place < end) × (order < 1024)
+StepsFrom place end order Rejected = (place < end) × (order < 1024)
+StepsFrom place end order Nothing = Unit {0}
+StepsFrom place end order Broken = Unit {0}
 
 -- what the row becomes: slots that were seen stay, and those that are kept and were not are null
 pub record FillsAbsent

@@ -1,5 +1,5 @@
 -- For private clauses: what a row's types and their slots say of those of its plan.
-use Rattle.std.specs.Prelude.{◌≡◌, ◌≢◌, ◌⊎◌, ◌^◌, ◌-◌, ◌<◌, ◌≤◌, ℕ, pos, List, [], length, map, Option, Some, None, slice_get, IfSome, false}
+use Rattle.std.specs.Prelude.{◌≡◌, ◌≢◌, ◌⊎◌, ◌^◌, ◌%◌, ◌<◌, ◌≤◌, ℕ, pos, List, [], length, map, Option, Some, None, slice_get, IfSome, true, false}
 use Rattle.std.specs.Int.{bit_at}
 use Rattle.serde_json.specs.Data.{Data}
 use Rattle.csdl_schema.specs.ExpansionView.{StepModel}
@@ -14,7 +14,7 @@ use Rattle.edm_row_plans.specs.Expanded.{slots_at}
 use Rattle.edm_row_plans.specs.Plans.{IsPlan}
 use Rattle.edm_row_plans.specs.declared.type_plan.SlotPlan.{SlotPlan}
 use Rattle.edm_row_plans.specs.declared.type_plan.TypePlan.{TypePlan}
-use Rattle.edm_entities.specs.private.Passed.{FitsSeen, FitsSomeProperty, MayBeAbsent}
+use Rattle.edm_rows.specs.private.Passed.{FitsSeen, FitsSomeProperty, MayBeAbsent}
 use Rattle.edm_entities.specs.private.Walk.{HoldsInSlot}
 use Rattle.edm_entities.specs.Row.{val_of}
 use Rattle.edm_values.specs.declared.value.Value.{Value}
@@ -22,6 +22,7 @@ use Rattle.edm_rows.specs.declared.row_types.RowSlot.{RowSlot}
 use Rattle.edm_rows.specs.declared.row_types.RowType.{RowType}
 use Rattle.edm_rows.specs.declared.row_types.Task.{Task}
 use Rattle.edm_rows.specs.declared.row_types.Task.TheVariants.{Text, Number, Truth, Date, Moment, Guid, Record, Items, Any}
+use Rattle.seen_slots.specs.SlotBits.{bits_of}
 use Rattle.edm_rows.specs.private.Held.{FilledAs, IsHeldTo, IsLeaf, IsSingle, Kinds, type_of}
 
 -- the name of a type of a schema, if there is one
@@ -75,11 +76,10 @@ IsTaskOf slot task = ((task ≢ Items) × (task ≡ slot.item)) ⊎ ((task ≡ I
 pub record IsRowSlot
     (schema : SchemaModel) (steps : List StepModel) (plans : List TypePlan) (index : ℕ) (plan : SlotPlan)
     (slot : RowSlot) : Type 0 where
-  pub named : slot.key ≡ plan.key
   pub behind : slot.node ≡ plan.node
   pub index_is : slot.index ≡ index
-  pub bit : slot.bit ≡ 2 ^ index
-  pub order : slot.order < 256
+  pub bit : slot.bit ≡ 2 ^ (slot.index % 64)
+  pub order : slot.order < 1024
   pub agrees : IsSlotOf plans slot
   pub task : IsTaskOf slot slot.task
   pub fits : (json : Data) → IsSlotHeld schema steps plans slot json
@@ -103,19 +103,27 @@ IsFresh slot = (slot.is_kept ≡ false) × (slot.sieve ≡ All)
 abbrev pub IsFreshType : RowType → Type 0
 IsFreshType type = (index : ℕ) → IfSome (slice_get type.slots.items index) IsFresh
 
--- it is the type of a plan, of 64 slots at most; those that it says may be absent may
+-- none of these plans has more than 64 slots
+abbrev pub AreFew : List TypePlan → Type 0
+AreFew plans = (place : ℕ) → IfSome (slice_get plans place) (λ plan. length plan.slots.items ≤ 64)
+
+-- it is the type of a plan, of 1,024 slots at most; those that it says may be absent may, and all are few where it says
+-- so
 pub record IsRowType
     (schema : SchemaModel) (steps : List StepModel) (plans : List TypePlan) (plan : TypePlan)
     (type : RowType) : Type 0 where
   pub is_plan : IsPlan schema steps plan
   pub of_type : (type.type_id ≡ plan.type_id) × (type.node ≡ plan.node)
   pub count : length type.slots.items ≡ length plan.slots.items
-  pub few : length type.slots.items ≤ 64
-  pub order : type.order < 256
+  pub few : length type.slots.items ≤ 1024
+  pub order : type.order < 1024
   pub each : (index : ℕ) → IfSome (slice_get type.slots.items index)
       (λ slot. IfSome (slice_get plan.slots.items index) (λ p. IsRowSlot schema steps plans index p slot))
-  pub all : type.all ≡ 2 ^ length type.slots.items - 1
-  pub optional : (index : ℕ) → bit_at type.optional index ≡ 1
+  pub named : (index : ℕ) → IfSome (slice_get type.slots.items index)
+      (λ slot. slice_get (map (λ p. p.name) (properties_at schema type.type_id)) index ≡ Some slot.key)
+  pub all : (index : ℕ) → index < length type.slots.items → bit_at (bits_of type.all.words) index ≡ 1
+  pub few_each : type.all_few ≡ true → AreFew plans
+  pub optional : (index : ℕ) → bit_at (bits_of type.optional.words) index ≡ 1
       → IfSome (slice_get (properties_at schema type.type_id) index) (MayBeAbsent (slots_at schema steps type.node))
 
 -- it is the type of one of these plans

@@ -1,5 +1,5 @@
 -- For private clauses: how a slot of a type is made of the slot of a plan.
-use Rattle.std.specs.Prelude.{◌≡◌, ◌≢◌, ◌⊎◌, ◌^◌, ◌<◌, ℕ, pos, List, Bool, true, false, Option, Some, None, length, slice_get, IfSome, if◌then◌else◌}
+use Rattle.std.specs.Prelude.{◌≡◌, ◌≢◌, ◌⊎◌, ◌^◌, ◌%◌, ◌<◌, ℕ, pos, List, Bool, true, false, Option, Some, None, length, slice_get, IfSome, if◌then◌else◌}
 use Rattle.csdl_schema.specs.ExprType.{primitive}
 use Rattle.csdl_schema.specs.declared.property.Property.{Property}
 use Rattle.edm_values.specs.NumberTypes.{IsNumberOf, IsNumberType}
@@ -60,8 +60,8 @@ pub record IsMadeOf (index : ℕ) (name : List ℕ) (plan : SlotPlan) (slot : Ro
   pub behind : slot.node ≡ plan.node
   pub points : slot.record ≡ plan.record
   pub index_is : slot.index ≡ index
-  pub bit : slot.bit ≡ 2 ^ index
-  pub order : slot.order < 256
+  pub bit : slot.bit ≡ 2 ^ (slot.index % 64)
+  pub order : slot.order < 1024
   pub values : IsSlotAs plan slot
 
 -- where records are wanted, their plan is one of these, of that type and after that node

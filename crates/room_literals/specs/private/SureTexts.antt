@@ -4,7 +4,7 @@ use Rattle.edm_values.specs.Civil.{Date}
 use Rattle.edm_values.specs.DateLiteral.{DateValue}
 use Rattle.edm_values.specs.GuidLiteral.{IsGuidSpelling}
 use Rattle.edm_values.specs.MomentLiteral.{MinutesValue, OffsetValue}
-use Rattle.json_tokens.specs.private.Lexemes.{DigitsBetween}
+use Rattle.json_room.specs.private.Lexemes.{DigitsBetween}
 
 -- each of sixteen bytes is the lowest of its lane or above that, by no more than its span
 abbrev pub AreWithin : List ℕ → ℕ → List ℕ → List ℕ → Type 0

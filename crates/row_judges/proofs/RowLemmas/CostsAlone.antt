@@ -6,7 +6,7 @@ use Rattle.edm_values.specs.Val.{Val}
 use Rattle.csdl_schema.specs.ExprType.{ExprType}
 use Rattle.csdl_schema.specs.SchemaModel.{Slots}
 use Rattle.odata_syntax.specs.declared.binary_operator.ComparisonOperator.TheVariants.{Eq}
-use Rattle.odata_syntax.specs.Tree.{Shape, Tree, Trees, any_item, binary, call, count, has, in_list, in_path, it, lambda, literal, logical_not, member, more_trees, name, negation, no_trees, node}
+use Rattle.odata_syntax.specs.Tree.{Tree, Trees, any_item, binary, call, count, has, in_list, in_path, it, lambda, literal, logical_not, member, more_trees, name, negation, no_trees, node}
 use Rattle.odata_syntax.specs.declared.node.Quantifier.TheVariants.{Any}
 use Rattle.odata_signatures.specs.Reads.{ReadsNumber}
 use Rattle.odata_signatures.specs.Typed.{Typed}

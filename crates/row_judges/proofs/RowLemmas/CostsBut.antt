@@ -9,8 +9,7 @@ use Rattle.csdl_schema.specs.PathSet.{PropertyPath}
 use Rattle.csdl_schema.specs.SchemaModel.{SchemaModel, slots_of, type_name_at}
 use Rattle.edm_entities.specs.Fits.{Fits}
 use Rattle.edm_entities.specs.Row.{Row, value_of}
-use Rattle.edm_entities.specs.RowReading.{IsLineBut}
-use Rattle.edm_row_plans.specs.PassedNames.{Names}
+use Rattle.edm_rows.specs.RowReading.{IsLineBut, Names}
 use Rattle.odata_checked_filter.specs.Filter.{Filter, slots_for_filter, tree_of_filter}
 use Rattle.odata_checked_filter.specs.declared.checked_node.NodeKind.{NodeKind}
 use Rattle.odata_filter_operations.specs.Outcome.{Outcome}

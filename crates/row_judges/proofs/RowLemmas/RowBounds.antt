@@ -1,5 +1,5 @@
 -- From what is known of an entity within a bound to what is reported about its row.
-use Rattle.std.proofs.Common.{◌<◌, ◌≤◌, ℕ, List, Option, Some, None, Result, Ok, Err, IfSome}
+use Rattle.std.proofs.Common.{ℕ, List, Option, Some, None, Result, Ok, Err, IfSome}
 use Rattle.serde_json.specs.Data.{Data}
 use Rattle.edm_values.specs.MomentParts.{MomentParts}
 use Rattle.csdl_schema.specs.JsonText.{IsJsonOf}
@@ -10,7 +10,7 @@ use Rattle.odata_eval.specs.CostsOn.{KeepsBound}
 use Rattle.odata_meaning.specs.MeansOn.{IsTheOutcome}
 use Rattle.odata_eval.specs.VerdictView.{outcome_reported}
 use Rattle.odata_eval.specs.declared.verdict.Verdict.{Verdict}
-use Rattle.row_judges.specs.RowCosts.{CostIs, ReportsRowWithin, RowCostIs}
+use Rattle.row_judges.specs.RowCosts.{ReportsRowWithin}
 use Rattle.row_judges.specs.declared.bad_row.BadRow.{BadRow}
 use Rattle.row_judges.specs.private.BoundedJudge.{ReportsValueWithin}
 use Rattle.row_judges.specs.private.ValueAnswer.{answer_reported}

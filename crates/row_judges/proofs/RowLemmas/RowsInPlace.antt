@@ -11,8 +11,7 @@ use Rattle.csdl_schema.specs.PathSet.{PropertyPath, PathSet}
 use Rattle.csdl_schema.specs.SchemaModel.{SchemaModel, expanded, properties_at, slot_named, slots_of, type_name_at, Slots}
 use Rattle.edm_entities.specs.Fits.{Fits}
 use Rattle.edm_entities.specs.Row.{slots_for}
-use Rattle.edm_entities.specs.RowReading.{IsLineBut}
-use Rattle.edm_row_plans.specs.PassedNames.{Names}
+use Rattle.edm_rows.specs.RowReading.{IsLineBut, Names}
 use Rattle.edm_rows.specs.RowItems.{IsJsonBut, IsJsonLeftOut}
 use Rattle.edm_rows.specs.RowsOfType.{IsLeftOut, IsSameButKept, IsSameReader, RowsOfType, names_unkept, row_held}
 use Rattle.edm_rows.specs.declared.type_rows.Reading.{Reading}

@@ -1,6 +1,6 @@
 -- For private clauses: the reader by which a filter's rows are read where they stand.
 use Rattle.std.specs.Prelude.{◌≡◌, ℕ, List, slice_get, true, IfSome}
-use Rattle.edm_entities.specs.RowReading.{IsLineBut}
+use Rattle.edm_rows.specs.RowReading.{IsLineBut}
 use Rattle.edm_rows.specs.RowsOfType.{IsLeftOut, RowsOfType, names_unkept, row_held}
 use Rattle.edm_rows.specs.declared.type_rows.Reading.{Reading}
 use Rattle.edm_values.specs.declared.sieve.Sieve.{Sieve}

@@ -1,7 +1,7 @@
 use Rattle.std.proofs.Common.{◌≡◌, ℕ, List, sym, ◌∙◌, subst, arith}
 use Rattle.json_room.proofs.RoomLemmas.{other_default, within_byte}
-use Rattle.edm_rows.proofs.Places.{members_begin}
-use Rattle.edm_rows.specs.private.Members.{NamesTo}
+use Rattle.json_room.proofs.Places.{members_begin}
+use Rattle.json_room.specs.private.ValuesStand.{NamesTo}
 use Rattle.collection_items.specs.private.DocumentWalk.{EndsPair}
 use Rattle.collection_items.specs.declared.document_walk.After.{After}
 use Rattle.collection_items.proofs.WalkSteps.{member_passed}

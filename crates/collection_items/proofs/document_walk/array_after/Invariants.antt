@@ -1,5 +1,5 @@
 use Rattle.std.proofs.Common.{◌-◌, length}
-use Rattle.edm_rows.specs.private.MembersSoFar.{MembersUpTo}
+use Rattle.json_room.specs.private.ValuesStand.{MembersUpTo}
 use Rattle.collection_items.proofs.document_walk.array_after.Given as goal
 
 -- the members before the offset were passed

@@ -2,8 +2,7 @@ use Rattle.std.proofs.Common.{◌≡◌, ◌+◌, ◌<◌, ◌++◌, ◌∷◌, 
 use Rattle.std.proofs.lemmas.Grind.{common_steps}
 use Rattle.serde_json.specs.View.{items_of}
 use Rattle.json_room.proofs.RoomLemmas.{other_default, within_byte}
-use Rattle.edm_rows.proofs.Places.{items_begin, no_items_read}
-use Rattle.edm_rows.proofs.RowsRead.{stands_so}
+use Rattle.json_room.proofs.Places.{items_begin, no_items_read, reads_to_as}
 use Rattle.collection_items.specs.private.DocumentWalk.{EndsItem, JudgesArray}
 use Rattle.collection_items.specs.declared.document_walk.After.{After}
 use Rattle.collection_items.proofs.WalkSteps.{JudgedUpTo, item_then_bracket, item_then_comma}
@@ -45,7 +44,7 @@ items-preserved g c =
     let end = c.in-Some.end in
     let kept = c.in-Some.is_kept in
     let next = c.in-Some-Comma.next in
-    let stands = stands_so 125 d l.place end (λ json. g.J.JudgesItems.says l.judge json kept) (λ json. says json kept) (λ json said. l.invariant.1 json kept said) c.in-Some.ensures.judged in
+    let stands = reads_to_as 125 d l.place end (λ json. g.J.JudgesItems.says l.judge json kept) (λ json. says json kept) (λ json said. l.invariant.1 json kept said) c.in-Some.ensures.judged in
     let ends : EndsItem d end (After.Comma next) = subst (EndsItem d end) c.in-Some-Comma.field-0-is c.in-Some-Comma.ensures in
     let pushed : c.push.new.self.items ≡ l.flags.items ++ kept ∷ [] = grind (arith, common_steps) in (
       subst (λ (flags : List Bool). JudgedUpTo says d c.args.from next flags) (sym pushed) (item_then_comma says d c.args.from l.place end l.flags.items kept l.invariant.0 stands next ends),
@@ -60,7 +59,7 @@ returns-in-Some-Close g c =
     let end = c.in-Some.end in
     let kept = c.in-Some.is_kept in
     let next = c.in-Some-Close.next in
-    let stands = stands_so 125 d l.place end (λ json. g.J.JudgesItems.says l.judge json kept) (λ json. says json kept) (λ json said. l.invariant.1 json kept said) c.in-Some.ensures.judged in
+    let stands = reads_to_as 125 d l.place end (λ json. g.J.JudgesItems.says l.judge json kept) (λ json. says json kept) (λ json said. l.invariant.1 json kept said) c.in-Some.ensures.judged in
     let ends : EndsItem d end (After.Close next) = subst (EndsItem d end) c.in-Some-Close.field-0-is c.in-Some-Close.ensures in
     let pushed : c.push.new.self.items ≡ l.flags.items ++ kept ∷ [] = grind (arith, common_steps) in
     subst (λ (flags : List Bool). JudgesArray says d c.args.from flags next) (sym pushed) (item_then_bracket says d c.args.from l.place end l.flags.items kept l.invariant.0 stands next ends)

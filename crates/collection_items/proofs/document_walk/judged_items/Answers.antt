@@ -1,7 +1,7 @@
 use Rattle.std.proofs.Common.{◌≡◌, ◌+◌, ◌<◌, ℕ, length, sym, ap, ◌∙◌, subst, arith}
 use Rattle.serde_json.specs.Data.{array}
 use Rattle.serde_json.specs.View.{items_of}
-use Rattle.json_tokens.specs.LexemesAt.{PassesSpaces}
+use Rattle.json_room.specs.LexemesAt.{PassesSpaces}
 use Rattle.json_room.proofs.RoomLemmas.{other_default, within_byte}
 use Rattle.collection_items.proofs.WalkSteps.{array_read, document_read}
 use Rattle.collection_items.proofs.document_walk.judged_items.Goals as goal

@@ -1,6 +1,6 @@
 use Rattle.std.proofs.Common.{sym, ◌∙◌, ◌+◌, arith}
 use Rattle.json_room.proofs.RoomLemmas.{other_default, within_byte}
-use Rattle.edm_rows.proofs.Places.{named_text}
+use Rattle.json_room.proofs.Places.{named_text}
 use Rattle.collection_items.proofs.WalkSteps.{names_then}
 use Rattle.collection_items.proofs.document_walk.member_name.Goals as goal
 

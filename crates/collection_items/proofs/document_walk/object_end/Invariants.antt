@@ -1,6 +1,6 @@
 use Rattle.std.proofs.Common.{ℕ, ◌-◌, ◌≤◌, length}
 use Rattle.serde_json.specs.Data.{Data}
-use Rattle.edm_rows.specs.private.MembersSoFar.{MembersRead}
+use Rattle.json_room.specs.private.ValuesStand.{MembersRead}
 use Rattle.collection_items.specs.JudgedItems.{HasValue}
 use Rattle.collection_items.proofs.document_walk.object_end.Given as goal
 

@@ -18,7 +18,7 @@ use Rattle.edm_row_plans.specs.Expanded.{slots_at, slots_in, wanted_with}
 use Rattle.edm_entities.specs.private.Walk.{HoldsInSlot, wanted_single}
 use Rattle.edm_entities.specs.declared.flaw.ReadFlaw.TheVariants as code
 use Rattle.edm_values.specs.declared.value.Value.{Null, Record}
-use Rattle.edm_entities.proofs.SlotLemmas.Depth.{found_measure, found_less, item_within}
+use Rattle.edm_entities.proofs.SlotLemmas.Depth.{found_measure, found_less, item_within, measure_of, rank_found, rank_single, rank_slots}
 use Rattle.edm_entities.proofs.SlotLemmas.EachSlot.{IsLookedAt, null_holds, null_in_slot, held_seen, primitive_holds, member_holds, slots_held, list_held, holds_push, holds_as}
 use Rattle.edm_entities.proofs.SlotLemmas.FaultsBelow.{fault_by}
 use Rattle.edm_entities.proofs.SlotLemmas.FoundWalk.{ok_by, err_by, reported_here, other_fits, other_fault, null_fits, null_flaw, type_wanted, seen_as, items_as, items_null, ok_seen, err_seen, unwanted_fits, nothing_fits, nothing_missing, nothing_expanded, node_slots}
@@ -30,7 +30,7 @@ use Rattle.edm_entities.proofs.json_walk.+walk.Goals as goal
 
 pub read_slots-read_property-requires : goal.read_slots-read_property-requires
 read_slots-read_property-requires t c =
-    let smaller : found_measure (option_map (λ j. view j.now) c.find.result) < 4 * depth (view c.args.json.now) + 1 =
+    let smaller : found_measure (option_map (λ j. view j.now) c.find.result) < measure_of (depth (view c.args.json.now)) rank_slots =
     found_less c.at.result.0.now (view c.args.json.now) (option_map (λ j. view j.now) c.find.result) c.find.ensures.found in
     search rules
 
@@ -73,12 +73,12 @@ read_slots-returns-in_default-clause-fault t c =
 
 pub read_property-read_items-requires : goal.read_property-read_items-requires
 read_property-read_items-requires t c =
-    let smaller : 4 * depth (view c.in-Some-found.json.now) + 3 < found_measure (option_map (λ j. view j.now) c.args.found) = rw c.in-Some-found.is (omega arith) in
+    let smaller : measure_of (depth (view c.in-Some-found.json.now)) rank_single < found_measure (option_map (λ j. view j.now) c.args.found) = rw c.in-Some-found.is (omega arith) in
     search rules
 
 pub read_property-read_single-requires : goal.read_property-read_single-requires
 read_property-read_single-requires t c =
-    let smaller : 4 * depth (view c.in-Some-found.json.now) + 3 < found_measure (option_map (λ j. view j.now) c.args.found) = rw c.in-Some-found.is (omega arith) in
+    let smaller : measure_of (depth (view c.in-Some-found.json.now)) rank_single < found_measure (option_map (λ j. view j.now) c.args.found) = rw c.in-Some-found.is (omega arith) in
     search rules
 
 pub read_property-returns-in_default-clause-fits : goal.read_property-returns-in_default-clause-fits
@@ -278,7 +278,7 @@ read_list-read_single-requires t c =
     let x = c.index-items-index.result in
     let at = item_there c.args.items.now c.loop-index.index x (omega arith) c.index-items-index.is in
     let within : depth (view x) ≤ items_depth (items_view c.args.items.now) = item_within c.args.items.now c.loop-index.index x at in
-    let smaller : 4 * depth (view x) + 3 < 4 * items_depth (items_view c.args.items.now) + 4 = omega arith in
+    let smaller : measure_of (depth (view x)) rank_single < measure_of (items_depth (items_view c.args.items.now)) rank_found = omega arith in
     search rules
 
 pub read_list-loop-index-preserved : goal.read_list-loop-index-preserved

@@ -1,4 +1,4 @@
-use Rattle.std.proofs.Common.{◌+◌, ◌*◌, option_map, take}
+use Rattle.std.proofs.Common.{option_map, take}
 use Rattle.serde_json.specs.Data.{depth, items_depth}
 use Rattle.serde_json.specs.View.{view, items_view}
 use Rattle.csdl_schema.specs.SchemaModel.{properties_at}
@@ -6,27 +6,27 @@ use Rattle.edm_entities.specs.private.PropertyCursor.{IsCursor}
 use Rattle.edm_row_plans.specs.Expanded.{slots_in}
 use Rattle.edm_entities.specs.private.MemberWalk.{IsWalkOf}
 use Rattle.edm_entities.specs.private.Walk.{FitSlots, FitList, HoldInItems, wanted_single}
-use Rattle.edm_entities.proofs.SlotLemmas.Depth.{found_measure}
+use Rattle.edm_entities.proofs.SlotLemmas.Depth.{found_measure, measure_of, rank_found, rank_single, rank_slots, rank_value}
 use Rattle.edm_entities.proofs.json_walk.+walk.Given as goal
 
 -- how deep the JSON nests counts first, and at one depth the order of the calls
 abbrev pub decreases-read_slots : goal.decreases-read_slots
-decreases-read_slots l = 4 * depth (view l.json.now) + 1
+decreases-read_slots l = measure_of (depth (view l.json.now)) rank_slots
 
 abbrev pub decreases-read_property : goal.decreases-read_property
 decreases-read_property l = found_measure (option_map (λ json. view json.now) l.found)
 
 abbrev pub decreases-read_single : goal.decreases-read_single
-decreases-read_single l = 4 * depth (view l.json.now) + 3
+decreases-read_single l = measure_of (depth (view l.json.now)) rank_single
 
 abbrev pub decreases-read_value : goal.decreases-read_value
-decreases-read_value l = 4 * depth (view l.json.now) + 2
+decreases-read_value l = measure_of (depth (view l.json.now)) rank_value
 
 abbrev pub decreases-read_items : goal.decreases-read_items
-decreases-read_items l = 4 * depth (view l.json.now) + 3
+decreases-read_items l = measure_of (depth (view l.json.now)) rank_single
 
 abbrev pub decreases-read_list : goal.decreases-read_list
-decreases-read_list l = 4 * items_depth (items_view l.items.now) + 4
+decreases-read_list l = measure_of (items_depth (items_view l.items.now)) rank_found
 
 -- the values so far fit the slots so far, the current piece is one of the type, and the members are the object's
 abbrev pub invariant-read_slots-loop-slot : goal.invariant-read_slots-loop-slot

@@ -1,7 +1,6 @@
 use Rattle.csdl_schema.specs.ExprType.{primitive, single}
 use Rattle.edm_values.specs.declared.primitive.PrimitiveType.TheVariants as prim
-use Rattle.edm_entities.proofs.FitLemmas.Numbers.{text_is}
-use Rattle.edm_rows.proofs.LeavesKept.{literal_puts}
+use Rattle.edm_rows.proofs.LeavesKept.{literal_puts, text_is}
 use Rattle.edm_rows.proofs.kept_leaf.take_any_text.Goals as goal
 
 pub returns-then-write_text-clause-taken : goal.returns-then-write_text-clause-taken

@@ -1,8 +1,7 @@
 use Rattle.std.proofs.Common.{refl}
 use Rattle.csdl_schema.specs.ExprType.{primitive, single}
 use Rattle.edm_values.specs.declared.primitive.PrimitiveType.TheVariants as prim
-use Rattle.edm_entities.proofs.FitLemmas.Numbers.{text_is}
-use Rattle.edm_rows.proofs.LeavesKept.{literal_puts, text_rejected}
+use Rattle.edm_rows.proofs.LeavesKept.{literal_puts, text_rejected, text_is}
 use Rattle.edm_rows.proofs.kept_leaf.take_text.Goals as goal
 
 pub returns-then-is_text_rejected : goal.returns-then-is_text_rejected

@@ -1,7 +1,7 @@
 use Rattle.std.proofs.Common.{sym, ◌∙◌, arith}
-use Rattle.json_tokens.proofs.LexemeLemmas.{stay}
+use Rattle.json_room.proofs.LexemeLemmas.{stay}
 use Rattle.json_room.proofs.RoomLemmas.{other_default, within_byte}
-use Rattle.edm_rows.proofs.Places.{brace_member, comma_member}
+use Rattle.edm_rows.proofs.NextMembers.{brace_member, comma_member}
 use Rattle.edm_rows.proofs.members.after_member.Goals as goal
 
 pub returns-in-44 : goal.returns-in-44

@@ -1,7 +1,8 @@
-use Rattle.std.proofs.Common.{◌≡◌, inl, length, Some, slice_get, refl, arith}
+use Rattle.std.proofs.Common.{◌≡◌, inl, length, Some, slice_get, refl, ap, ◌∙◌, arith}
 use Rattle.std.proofs.lemmas.Option.{slice_get_read}
 use Rattle.edm_rows.proofs.NextMembers.{as_many, slot_named}
-use Rattle.edm_rows.proofs.Places.{names_to}
+use Rattle.json_room.proofs.Places.{names_to}
+use Rattle.edm_rows.proofs.members.named_member.Goals.{else-len-le-FEW_SLOTS, then-len-le-FEW_SLOTS+else-loop-slot-test}
 use Rattle.edm_rows.proofs.members.named_member.Goals as goal
 
 pub slot_at-requires-clause-count : goal.slot_at-requires-clause-count
@@ -26,7 +27,13 @@ pub returns-in-Some-clause-depth : goal.returns-in-Some-clause-depth
 returns-in-Some-clause-depth c = c.loop-slot.invariant
 
 pub returns-in_default-slot_at-clause-depth : goal.returns-in_default-slot_at-clause-depth
-returns-in_default-slot_at-clause-depth c = c.loop-slot.invariant
+returns-in_default-slot_at-clause-depth c = elim c.if-len-le-FEW_SLOTS.branch [
+  | then-len-le-FEW_SLOTS+else-loop-slot-test w ↦ ap (λ k. k.depth) w.cache-is ∙ w.loop-slot.invariant
+  | else-len-le-FEW_SLOTS w ↦ ap (λ k. k.depth) w.cache-is
+]
 
 pub returns-clause-depth : goal.returns-clause-depth
-returns-clause-depth c = c.loop-slot.invariant
+returns-clause-depth c = elim c.if-len-le-FEW_SLOTS.branch [
+  | then-len-le-FEW_SLOTS+else-loop-slot-test w ↦ ap (λ k. k.depth) w.cache-is ∙ w.loop-slot.invariant
+  | else-len-le-FEW_SLOTS w ↦ ap (λ k. k.depth) w.cache-is
+]

@@ -1,7 +1,7 @@
 use Rattle.std.proofs.Common.{◌≡◌, ℕ, inl, length, IfSome, Some, slice_get, refl, subst, sym, arith}
 use Rattle.std.proofs.lemmas.Option.{slice_get_read}
 use Rattle.csdl_schema.specs.SchemaModel.{properties_at}
-use Rattle.edm_rows.specs.private.Held.{ReadsTo}
+use Rattle.json_room.specs.ValueStands.{ValueStands}
 use Rattle.edm_rows.specs.private.Members.{NextMember}
 use Rattle.edm_rows.proofs.NextMembers.{as_many, name_next, other_next, slot_behind, slot_named, slot_stands}
 use Rattle.edm_rows.proofs.Values.{some_by}
@@ -40,7 +40,7 @@ returns-clause-found c =
     let ps = properties_at context.schema.now type.type_id in
     let depth = c.args.cache.now.depth in
     let count = as_many context.schema.now context.plan.now.expansion context.plan.now.plans.items c.requires.plan.0 type c.requires.plan.1 in
-    let reads = subst (λ n. IfSome c.any_end.result (λ to. ReadsTo n context.line c.past_blanks.result to (λ json. Unit {0}))) c.named_member.ensures.depth c.any_end.ensures in
-    some_by c.any_end.result (λ to. ReadsTo depth context.line c.past_blanks.result to (λ json. Unit {0})) (NextMember depth context.line ps c.named_member.new.cache.slot c.args.from)
+    let reads = subst (λ n. IfSome c.any_value_end.result (λ to. ValueStands n context.line c.past_blanks.result to (λ json. Unit {0}))) c.named_member.ensures.depth c.any_value_end.ensures in
+    some_by c.any_value_end.result (λ to. ValueStands depth context.line c.past_blanks.result to (λ json. Unit {0})) (NextMember depth context.line ps c.named_member.new.cache.slot c.args.from)
     (λ to at_to. other_next depth context.line ps c.named_member.new.cache.slot c.args.from c.past_blanks-place.result c.in-Some-named_member.value c.past_blanks.result to c.past_blanks-place.ensures (omega (arith, count))
     c.in-Some-named_member.ensures.name c.past_blanks.ensures at_to) reads

@@ -1,6 +1,6 @@
 use Rattle.std.proofs.Common.{sym, ◌∙◌, arith}
 use Rattle.json_room.proofs.RoomLemmas.{other_default, within_byte}
-use Rattle.edm_rows.proofs.Places.{named_text}
+use Rattle.json_room.proofs.Places.{named_text}
 use Rattle.edm_rows.proofs.members.slot_at.Goals as goal
 
 pub returns : goal.returns

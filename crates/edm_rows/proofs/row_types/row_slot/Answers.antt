@@ -1,4 +1,4 @@
-use Rattle.std.proofs.Common.{refl, subst}
+use Rattle.std.proofs.Common.{◌%◌, refl, subst, arith}
 use Rattle.std.proofs.lemmas.Nat.{one_shl}
 use Rattle.edm_rows.specs.private.RowTypes.{IsKindOf}
 use Rattle.edm_rows.proofs.row_types.row_slot.Goals as goal
@@ -10,7 +10,7 @@ returns-clause-made c =
       behind = refl;
       points = refl;
       index_is = refl;
-      bit = one_shl c.args.index 64 c.requires.index;
+      bit = one_shl (c.args.index % 64) 64 (omega arith);
       order = c.requires.order;
       values = record {
         kind = c.kind_of-kind.result;

@@ -1,8 +1,10 @@
-use Rattle.std.proofs.Common.{◌≡◌, ℕ, [], ◌∷◌, ◌++◌, length, IfSome, slice_get, sym, ap, ◌∙◌, subst, arith}
+use Rattle.std.proofs.Common.{◌≡◌, true, ℕ, [], ◌∷◌, ◌++◌, length, IfSome, slice_get, sym, ap, ◌∙◌, subst, arith}
 use Rattle.std.proofs.lemmas.Grind.{common_steps}
 use Rattle.edm_rows.specs.declared.row_types.RowType.{RowType}
-use Rattle.edm_rows.specs.private.RowSlots.{IsFreshType, IsRowType}
-use Rattle.edm_rows.proofs.RowTypes.{each_push, long_push, none_each}
+use Rattle.edm_rows.specs.private.RowSlots.{AreFew, IsFreshType, IsRowType}
+use Rattle.edm_rows.proofs.RowLemmas.RowTypes.{each_push, long_push, none_each}
+use Rattle.edm_rows.proofs.TypesChanged.{says_few}
+use Rattle.edm_rows.proofs.Values.{some_by}
 use Rattle.edm_rows.proofs.row_types.row_types.Goals as goal
 
 pub loop-place-init : goal.loop-place-init
@@ -19,10 +21,15 @@ pub loop-place-preserved : goal.loop-place-preserved
 loop-place-preserved c =
     let l = c.loop-place in
     let plans = c.args.plan.now.plans.items in
-    let type = c.in-Some.row_type in
+    let made = c.in-Some.row_type in
+    let few = c.have_few_slots-all_few.result in
+    let type : RowType = record made { all_few = few } in
+    let said : few ≡ true → AreFew plans = λ is. subst AreFew c.as_slice.ensures.value (c.have_few_slots-all_few.ensures is) in
     let Q : (ℕ → RowType → Type 0) = λ k t. IfSome (slice_get plans k) (λ p. IsRowType c.args.schema.now c.args.plan.now.expansion plans p t) in
     let pushed : c.push.new.self.items ≡ l.types.items ++ type ∷ [] = grind (arith, common_steps) in
-    let here : Q (length l.types.items) type = subst (λ n. Q n type) (sym l.invariant.0) c.in-Some.ensures.planned in (
+    let here : Q (length l.types.items) type = subst (λ n. Q n type) (sym l.invariant.0)
+    (some_by (slice_get plans l.place) (λ p. IsRowType c.args.schema.now c.args.plan.now.expansion plans p made) (λ p. IsRowType c.args.schema.now c.args.plan.now.expansion plans p type)
+    (λ p is. says_few c.args.schema.now c.args.plan.now.expansion plans p made few said is) c.in-Some.ensures.planned) in (
       ap length pushed ∙ long_push l.types.items type ∙ omega (arith, l.invariant.0),
       omega arith,
       subst (λ items. (k : ℕ) → IfSome (slice_get items k) (Q k)) (sym pushed) (each_push Q l.types.items type l.invariant.2 here),

@@ -1,7 +1,7 @@
 use Rattle.std.proofs.Common.{subst}
 use Rattle.edm_values.specs.NumberTypes.{IsNumberType}
 use Rattle.edm_values.specs.declared.primitive.PrimitiveType.TheVariants as prim
-use Rattle.edm_rows.proofs.RowTypes.{sure_as, sure_byte, sure_int16, sure_int32, sure_int64, sure_none, sure_sbyte}
+use Rattle.edm_rows.proofs.RowLemmas.RowTypes.{sure_as, sure_byte, sure_int16, sure_int32, sure_int64, sure_none, sure_sbyte}
 use Rattle.edm_rows.proofs.row_types.sure_digits.Goals as goal
 
 pub returns-in-Byte : goal.returns-in-Byte

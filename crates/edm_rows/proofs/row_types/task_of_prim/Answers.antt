@@ -1,5 +1,5 @@
 use Rattle.edm_values.specs.declared.primitive.PrimitiveType.TheVariants as prim
-use Rattle.edm_rows.proofs.RowTypes.{date_task, guid_task, moment_task, number_task, text_task, truth_task}
+use Rattle.edm_rows.proofs.RowLemmas.RowTypes.{date_task, guid_task, moment_task, number_task, text_task, truth_task}
 use Rattle.edm_rows.proofs.row_types.task_of_prim.Goals as goal
 
 pub returns-in-String : goal.returns-in-String

@@ -11,7 +11,7 @@ returns-then-slot-len-clause-same c =
     let s = c.index_mut.result.now in
     let less : c.args.slot < length slots = omega arith in
     let at : slice_get slots c.args.slot ≡ Some s = slice_get_read slots (length slots) c.args.slot s refl less c.index_mut.ensures.value in
-    same_type of _ c.args.slot s true s.sieve at refl refl refl refl refl refl
+    same_type of _ c.args.slot s true s.sieve at refl refl refl refl refl refl refl
 
 pub returns-then-slot-len-clause-kept : goal.returns-then-slot-len-clause-kept
 returns-then-slot-len-clause-kept c = set_mapped (λ s. s.is_kept) c.args.of.now.slots.items c.args.slot (slot_as c.index_mut.result.now true c.index_mut.result.now.sieve)

@@ -16,7 +16,7 @@ returns-then-slot-len-clause-same c =
     let s = c.index_mut.result.now in
     let less : c.args.slot < length slots = omega arith in
     let at : slice_get slots c.args.slot ≡ Some s = slice_get_read slots (length slots) c.args.slot s refl less c.index_mut.ensures.value in
-    same_type of _ c.args.slot s s.is_kept (sieve_put s.sieve c.args.sieve) at (ap (λ (x : RowSlot). slice_set slots c.args.slot x) c.put_sieve.ensures) refl refl refl refl refl
+    same_type of _ c.args.slot s s.is_kept (sieve_put s.sieve c.args.sieve) at (ap (λ (x : RowSlot). slice_set slots c.args.slot x) c.put_sieve.ensures) refl refl refl refl refl refl
 
 pub returns-then-slot-len-clause-kept : goal.returns-then-slot-len-clause-kept
 returns-then-slot-len-clause-kept c =

@@ -1,6 +1,6 @@
 use Rattle.std.proofs.Common.{◌≡◌, ℕ, length, sym, ◌∙◌, subst, rules}
-use Rattle.json_tokens.proofs.LexemeLemmas.{stay}
-use Rattle.json_tokens.specs.LexemesAt.{PassesSpaces}
+use Rattle.json_room.proofs.LexemeLemmas.{stay}
+use Rattle.json_room.specs.LexemesAt.{PassesSpaces}
 use Rattle.edm_rows.proofs.type_rows.ends_line.Goals as goal
 
 pub returns-then-end-count : goal.returns-then-end-count

@@ -1,6 +1,6 @@
 use Rattle.std.proofs.Common.{◌≡◌, ◌<◌, length, get_or, true, sym, ap, ◌∙◌, arith}
 use Rattle.json.specs.Word.{is_space}
-use Rattle.json_tokens.proofs.LexemeLemmas.{one_more_space, stay}
+use Rattle.json_room.proofs.LexemeLemmas.{one_more_space, stay}
 use Rattle.json_room.proofs.RoomLemmas.{other_default, within_byte}
 use Rattle.json_room.proofs.blanks.past_blanks.Goals as goal
 

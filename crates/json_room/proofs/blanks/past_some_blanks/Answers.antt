@@ -1,7 +1,7 @@
 use Rattle.std.proofs.Common.{rules, ◌≡◌, ◌<◌, length, get_or, true, sym, ap, ◌∙◌}
 use Rattle.std.proofs.lemmas.List.{get_or_default}
 use Rattle.json.specs.Word.{is_space}
-use Rattle.json_tokens.proofs.LexemeLemmas.{one_more_space, stay}
+use Rattle.json_room.proofs.LexemeLemmas.{one_more_space, stay}
 use Rattle.json_room.proofs.blanks.past_some_blanks.Goals as goal
 
 pub loop-place-init : goal.loop-place-init

@@ -1,5 +1,5 @@
 use Rattle.std.proofs.Common.{◌-◌, length}
-use Rattle.json_tokens.specs.private.Lexemes.{PassesSpaces}
+use Rattle.json_room.specs.private.Lexemes.{PassesSpaces}
 use Rattle.json_room.proofs.blanks.past_some_blanks.Given as goal
 
 -- white space stands up to the offset

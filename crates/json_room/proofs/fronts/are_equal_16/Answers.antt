@@ -1,6 +1,6 @@
 use Rattle.std.proofs.Common.{arith}
 use Rattle.std.proofs.lemmas.Bool.{eqb-true}
-use Rattle.json_tokens.proofs.KeyLemmas.{lanes_equal}
+use Rattle.json_room.proofs.KeyLemmas.{lanes_equal}
 use Rattle.json_room.proofs.fronts.are_equal_16.Goals as goal
 
 pub returns : goal.returns

@@ -1,5 +1,5 @@
 use Rattle.std.proofs.Common.{◌≡◌, ◌+◌, ◌≤◌, length, get_or, arith}
-use Rattle.json_tokens.specs.private.Lexemes.{DigitsBetween}
+use Rattle.json_room.specs.private.Lexemes.{DigitsBetween}
 use Rattle.json_room.proofs.Lanes.{all_digits_there, digit_run_le, digits_before}
 use Rattle.json_room.proofs.RoomLemmas.{digits_here, digits_within}
 use Rattle.json_room.proofs.numbers.digit_run.Goals as goal

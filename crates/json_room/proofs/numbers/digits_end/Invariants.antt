@@ -1,5 +1,5 @@
 use Rattle.std.proofs.Common.{◌≤◌, ◌-◌, length}
-use Rattle.json_tokens.specs.private.Lexemes.{DigitsBetween}
+use Rattle.json_room.specs.private.Lexemes.{DigitsBetween}
 use Rattle.json_room.proofs.numbers.digits_end.Given as goal
 
 -- digits of the line stand up to the offset

@@ -1,8 +1,8 @@
 use Rattle.std.proofs.Common.{◌≡◌, ◌+◌, ◌-◌, ◌*◌, ◌<◌, ◌≤◌, ℕ, length, drop, get_or, true, refl, sym, ap, ◌∙◌, subst, arith, length-drop}
 use Rattle.std.proofs.lemmas.List.{get_or_default, get_or-drop}
 use Rattle.std.specs.Char.{is_ascii_digit}
-use Rattle.json_tokens.specs.private.Lexemes.{WritesWhole}
-use Rattle.json_tokens.proofs.WholeLemmas.{few_digits, first_digit, one_digit_more}
+use Rattle.json_room.specs.private.Lexemes.{WritesWhole}
+use Rattle.json_room.proofs.WholeLemmas.{few_digits, first_digit, one_digit_more}
 use Rattle.json_room.proofs.RoomLemmas.{digit_within}
 use Rattle.json_room.proofs.numbers.digits_value.Goals as goal
 

@@ -1,5 +1,5 @@
 use Rattle.std.proofs.Common.{◌<◌, ◌≤◌, ◌-◌, length, drop}
-use Rattle.json_tokens.specs.private.Lexemes.{WritesWhole}
+use Rattle.json_room.specs.private.Lexemes.{WritesWhole}
 use Rattle.json_room.proofs.numbers.digits_value.Given as goal
 
 -- the bytes so far are digits, and the number is theirs

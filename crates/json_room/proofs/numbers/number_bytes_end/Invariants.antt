@@ -1,5 +1,5 @@
 use Rattle.std.proofs.Common.{◌≤◌, ◌-◌, length}
-use Rattle.json_tokens.specs.private.Lexemes.{AsciiBetween}
+use Rattle.json_room.specs.private.Lexemes.{AsciiBetween}
 use Rattle.json_room.proofs.numbers.number_bytes_end.Given as goal
 
 -- bytes of ASCII stand up to the offset

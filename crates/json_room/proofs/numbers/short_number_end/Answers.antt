@@ -1,5 +1,5 @@
 use Rattle.std.proofs.Common.{◌<◌, ◌≤◌, take, drop, ◌-◌, arith}
-use Rattle.json_tokens.proofs.ShortNumberLemmas.{number_there}
+use Rattle.json_room.proofs.ShortNumberLemmas.{number_there}
 use Rattle.json_room.proofs.Standing.{number_stands}
 use Rattle.json_room.proofs.numbers.short_number_end.Goals as goal
 

@@ -1,5 +1,5 @@
 use Rattle.std.proofs.Common.{◌+◌, arith}
-use Rattle.json_tokens.proofs.StopLemmas.{all_plain, plain_before}
+use Rattle.json_room.proofs.StopLemmas.{all_plain, plain_before}
 use Rattle.json_room.proofs.RoomLemmas.{plain_here, plain_within}
 use Rattle.json_room.proofs.texts.plain_run.Goals as goal
 

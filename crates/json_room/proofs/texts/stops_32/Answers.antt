@@ -1,5 +1,5 @@
 use Rattle.std.proofs.Common.{arith}
-use Rattle.json_tokens.proofs.StopLemmas.{stops_mask}
+use Rattle.json_room.proofs.StopLemmas.{stops_mask}
 use Rattle.json_room.proofs.texts.stops_32.Goals as goal
 
 pub returns : goal.returns

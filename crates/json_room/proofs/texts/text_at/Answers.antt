@@ -4,7 +4,7 @@ use Rattle.std.proofs.lemmas.Str.{IsCharBoundary-after_ascii, IsCharBoundary-bef
 use Rattle.std.specs.Str.{IsCharBoundary, IsUtf8}
 use Rattle.json.specs.Lex.{token, between, lex}
 use Rattle.json.specs.Token.{string}
-use Rattle.json_tokens.proofs.LexemeLemmas.{text_lexed}
+use Rattle.json_room.proofs.LexemeLemmas.{text_lexed}
 use Rattle.json_room.proofs.RoomLemmas.{other_default, within_byte}
 use Rattle.json_room.proofs.texts.text_at.Goals as goal
 

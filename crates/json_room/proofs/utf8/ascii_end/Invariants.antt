@@ -1,5 +1,5 @@
 use Rattle.std.proofs.Common.{◌≤◌, ◌+◌, ◌-◌}
-use Rattle.json_tokens.specs.private.Lexemes.{AsciiBetween}
+use Rattle.json_room.specs.private.Lexemes.{AsciiBetween}
 use Rattle.json_room.proofs.utf8.ascii_end.Given as goal
 
 -- bytes of ASCII stand up to the offset, which is past the last by less than one load

@@ -1,5 +1,5 @@
 use Rattle.std.proofs.Common.{◌+◌, ◌-◌, ◌≤◌}
-use Rattle.json_tokens.specs.private.Lexemes.{DigitsBetween}
+use Rattle.json_room.specs.private.Lexemes.{DigitsBetween}
 use Rattle.room_literals.proofs.sure_texts.fraction_end.Given as goal
 
 -- digits stand from after the point up to the offset

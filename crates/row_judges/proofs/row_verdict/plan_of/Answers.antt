@@ -17,6 +17,3 @@ returns-clause-whole c whole = c.new.ensures.whole whole ∙ c.expansion.ensures
 
 pub returns-clause-expansion : goal.returns-clause-expansion
 returns-clause-expansion c = ⊎_elim (λ same. inl (same ∙ c.expansion.ensures.same)) (λ none. inr none) c.new.ensures.expansion
-
-pub returns-clause-keeps : goal.returns-clause-keeps
-returns-clause-keeps c = c.new.ensures.keeps c.args.checked.now.schema

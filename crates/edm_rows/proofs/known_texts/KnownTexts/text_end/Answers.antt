@@ -2,9 +2,9 @@ use Rattle.std.proofs.Common.{◌≡◌, ◌+◌, ◌<◌, ℕ, List, Option, So
 use Rattle.std.proofs.lemmas.Option.{slice_get_read}
 use Rattle.csdl_schema.specs.ExprType.{enumeration, single}
 use Rattle.csdl_schema.specs.SchemaModel.{slots_of}
-use Rattle.edm_entities.specs.private.Passed.{FitsSomeHowever}
+use Rattle.edm_rows.specs.private.Passed.{FitsSomeHowever}
 use Rattle.edm_rows.specs.declared.known_texts.KnownText.{KnownText}
-use Rattle.edm_rows.specs.private.Held.{ReadsTo}
+use Rattle.json_room.specs.ValueStands.{ValueStands}
 use Rattle.edm_rows.specs.private.KnownTexts.{IsKnown}
 use Rattle.edm_rows.specs.private.RowSlots.{name_at}
 use Rattle.edm_rows.proofs.KnownTextsStand.{known_stands}
@@ -26,4 +26,4 @@ returns-then-are_front c schema depth known =
     let is : k.length < 16 → IsKnown schema k = subst (λ (o : Option KnownText). IfSome o (λ t. t.length < 16 → IsKnown schema t)) at (known.each n) in
     let same : k.id ≡ c.args.id = search rules in
     let stands = known_stands schema k line b place r.front r.line_feed r.room c.requires opens few (is few) (c.are_front.ensures c.if-are_front.true) depth in
-    subst (λ (o : Option ℕ). ReadsTo depth line place (place + k.length + 2) (FitsSomeHowever (slots_of schema) (single (enumeration (name_at schema o))))) same stands
+    subst (λ (o : Option ℕ). ValueStands depth line place (place + k.length + 2) (FitsSomeHowever (slots_of schema) (single (enumeration (name_at schema o))))) same stands

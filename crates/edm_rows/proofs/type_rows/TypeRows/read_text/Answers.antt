@@ -1,5 +1,5 @@
 use Rattle.std.proofs.Common.{◌≡◌, ◌≤◌, ℕ, List, length, sym, ◌∙◌, subst}
-use Rattle.json_tokens.specs.LexemesAt.{PassesSpaces}
+use Rattle.json_room.specs.LexemesAt.{PassesSpaces}
 use Rattle.edm_rows.specs.declared.kept_leaf.Taken.{Taken}
 use Rattle.edm_rows.specs.private.HeldRows.{IsTakenWhole, IsTakenWithin}
 use Rattle.edm_rows.proofs.RowsRead.{ends_within, line_kept, line_left_out}

@@ -1,5 +1,5 @@
 use Rattle.std.proofs.Common.{◌≤◌, List, ℕ, length, ap, ◌∙◌, subst, arith}
-use Rattle.json_tokens.specs.Keys.{name_with_colon}
+use Rattle.json_room.specs.Keys.{name_with_colon}
 use Rattle.json_room.specs.private.SpelledKey.{StandsByte}
 use Rattle.json_room.proofs.spelled_key.SpelledKey.back_stands.Goals as goal
 

@@ -1,8 +1,8 @@
 use Rattle.std.proofs.Common.{◌≡◌, ◌+◌, ◌<◌, ◌≤◌, List, ℕ, length, sym, ap, ◌∙◌, subst, ⊎_elim, arith}
 use Rattle.std.proofs.lemmas.Bool.{cases_lt}
 use Rattle.json.specs.Written.{PlainBetween}
-use Rattle.json_tokens.specs.Keys.{name_with_colon}
-use Rattle.json_tokens.specs.private.Lexemes.{BeginsKey, StandsAt}
+use Rattle.json_room.specs.Keys.{name_with_colon}
+use Rattle.json_room.specs.private.Lexemes.{BeginsKey, StandsAt}
 use Rattle.json_room.specs.private.SpelledKey.{StandsByte}
 use Rattle.json_room.proofs.KeysStand.{name_feeds_not, some_bytes, stands_by_bytes}
 use Rattle.json_room.proofs.Standing.{key_stands}

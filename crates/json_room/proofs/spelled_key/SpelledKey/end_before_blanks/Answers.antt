@@ -1,7 +1,7 @@
 use Rattle.std.proofs.Common.{◌≡◌, ◌+◌, ◌≤◌, List, ℕ, length, get_or, sym, ap, ◌∙◌, subst, arith}
 use Rattle.json.specs.Written.{PlainBetween}
-use Rattle.json_tokens.specs.Keys.{quoted_name}
-use Rattle.json_tokens.specs.private.Lexemes.{BeginsKey, PassesSpaces, StandsAt}
+use Rattle.json_room.specs.Keys.{quoted_name}
+use Rattle.json_room.specs.private.Lexemes.{BeginsKey, PassesSpaces, StandsAt}
 use Rattle.json_room.specs.private.SpelledKey.{StandsByte}
 use Rattle.json_room.proofs.KeysStand.{quoted_feeds_not, stands_by_bytes}
 use Rattle.json_room.proofs.RoomLemmas.{other_default}

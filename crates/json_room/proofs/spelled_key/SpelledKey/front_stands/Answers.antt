@@ -1,6 +1,6 @@
 use Rattle.std.proofs.Common.{◌≡◌, ◌+◌, ◌<◌, List, ℕ, length, get_or, sym, ◌∙◌, subst}
 use Rattle.std.proofs.lemmas.Simd.{get_or-chunk}
-use Rattle.json_tokens.specs.Keys.{name_with_colon}
+use Rattle.json_room.specs.Keys.{name_with_colon}
 use Rattle.json_room.specs.private.SpelledKey.{StandsByte}
 use Rattle.json_room.proofs.KeysStand.{bytes_stand, name_feeds_not}
 use Rattle.json_room.proofs.spelled_key.SpelledKey.front_stands.Goals as goal

@@ -1,7 +1,8 @@
 use Rattle.std.proofs.Common.{◌≡◌, ◌≤◌, ◌+◌, Bool, List, ℕ, Option, IfSome, length, take, get_or, sym, subst}
 use Rattle.std.specs.Prelude.{false}
 use Rattle.odata_eval.specs.TrueWhere.{AreWhole}
-use Rattle.edm_rows.specs.RowItems.{IsJsonBut, IsJsonLeftOut, ReadsItem, ValueStands}
+use Rattle.json_room.specs.ValueStands.{ValueStands}
+use Rattle.edm_rows.specs.RowItems.{IsJsonBut, IsJsonLeftOut, ReadsItem}
 use Rattle.edm_rows.specs.RowsOfType.{names_unkept, row_held}
 use Rattle.row_judges.specs.RowJudgment.{JudgesValue, judgment_where}
 use Rattle.row_judges.specs.RowLineJudge.{FilterNow}

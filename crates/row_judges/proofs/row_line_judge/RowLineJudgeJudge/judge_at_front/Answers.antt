@@ -8,14 +8,14 @@ use Rattle.row_judges.proofs.row_line_judge.RowLineJudgeJudge.judge_at_front.Goa
 
 pub invariant_of-self : goal.invariant_of-self
 invariant_of-self c =
-    (c.self.invariant.0, rows_again c.self.inside.rows.checked.now c.self.inside.type_rows c.read_at_front-reading.new.rows c.read_at_front-reading.ensures.same c.self.invariant.1, c.self.invariant.2)
+    (rows_again c.self.inside.rows.checked.now c.self.inside.type_rows c.read_at_front-reading.new.rows c.read_at_front-reading.ensures.same c.self.invariant.0, c.self.invariant.1)
 
 pub judge_reading-requires-clause-rows : goal.judge_reading-requires-clause-rows
 judge_reading-requires-clause-rows c =
-    rows_again c.self.inside.rows.checked.now c.self.inside.type_rows c.read_at_front-reading.new.rows c.read_at_front-reading.ensures.same c.self.invariant.1
+    rows_again c.self.inside.rows.checked.now c.self.inside.type_rows c.read_at_front-reading.new.rows c.read_at_front-reading.ensures.same c.self.invariant.0
 
 pub judge_reading-requires-clause-tests : goal.judge_reading-requires-clause-tests
-judge_reading-requires-clause-tests c = subst (AreWhole c.self.inside.rows.checked.now) (sym c.as_slice.ensures.value) c.self.invariant.2
+judge_reading-requires-clause-tests c = subst (AreWhole c.self.inside.rows.checked.now) (sym c.as_slice.ensures.value) c.self.invariant.1
 
 pub judge_reading-requires-clause-read : goal.judge_reading-requires-clause-read
 judge_reading-requires-clause-read c = (take c.args.count c.args.bytes.now, c.read_at_front-reading.ensures.read)

@@ -1,6 +1,0 @@
-use Rattle.std.proofs.Common.{arith}
-use Rattle.json_tokens.proofs.StopLemmas.{stops_mask}
-use Rattle.json_tokens.proofs.lexeme.stops_8.Goals as goal
-
-pub returns : goal.returns
-returns c = stops_mask c.args.lanes 8 c.fits-lanes.0 (omega arith)

@@ -1,0 +1,20 @@
+use Rattle.std.proofs.Common.{◌≡◌, ◌<◌, ℕ, get_or, ⊎_elim, sym, subst, arith}
+use Rattle.std.proofs.lemmas.Bool.{cases_lt}
+use Rattle.seen_slots.proofs.SlotBits.{all_seen}
+use Rattle.seen_slots.proofs.many_slots.ManySlotsSeenSlots.are_all.Goals as goal
+
+pub loop-word-init : goal.loop-word-init
+loop-word-init c j less = absurd (omega (arith, less))
+
+pub loop-word-preserved : goal.loop-word-preserved
+loop-word-preserved c j less =
+    let l = c.loop-word in
+    ⊎_elim (l.invariant j)
+    (λ more.
+    let here : j ≡ l.word = omega (arith, more, less) in
+    subst (λ (i : ℕ). get_or c.args.self.now.words i 0 ≡ get_or c.args.all.now.words i 0) (sym here) c.if-self-word.false) (cases_lt j l.word)
+
+pub returns : goal.returns
+returns c _ k inside =
+    let end : c.loop-word.word ≡ 16 = omega arith in
+    all_seen c.args.self.now.words c.args.all.now.words 16 k inside (λ j less. c.loop-word.invariant j (omega (arith, less, end)))
