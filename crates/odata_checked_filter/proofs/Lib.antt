@@ -1,6 +1,6 @@
 pub mod flat
 mod nesting
-mod canonical
+mod printed
 mod pre_orders
 mod explained
 pub mod needed

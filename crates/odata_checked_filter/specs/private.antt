@@ -1,6 +1,5 @@
 -- Definitions that private clauses alone cite.
 pub mod Called
-pub mod CanonicalText
 pub mod Explanation
 pub mod KeptLists
 pub mod KindTexts
@@ -9,4 +8,5 @@ pub mod Layout
 pub mod NeededPaths
 pub mod NodeList
 pub mod PathSteps
+pub mod PrintedList
 pub mod PropertyPaths

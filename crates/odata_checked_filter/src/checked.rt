@@ -14,7 +14,6 @@ ghost use Rattle.odata_signatures.specs.PreOrder.{pre_order, span_of_tree};
 ghost use Rattle.odata_signatures.specs.TypeView.{expr_type};
 
 use super::called::{any_maker, any_now};
-use super::canonical_text::text_of_list;
 use super::checked_node::{CheckedNode, NodeKind};
 use super::explanation::explanation_of;
 use super::lambda_depth::deepest;
@@ -24,6 +23,7 @@ use super::property_paths::paths_of_list;
 use csdl_schema::{Expansion, Schema, TypeId};
 use edm_values::Value;
 use odata_signatures::{EdmType, calls_have_one_type, trees_have_one_type};
+use odata_syntax::print_tree;
 use odata_text::Span;
 use std::alloc::{AllocError, Global};
 use std::marker::Model;
@@ -211,7 +211,8 @@ impl<'s> Checked<'s> {
     {
         // What is known of every filter is known once its nodes have been asked for.
         let _nodes = self.nodes();
-        text_of_list(alloc, self.list())
+        let list = self.list();
+        print_tree(alloc, list, 0, list.source_len())
     }
 
     /// Returns a line for each node, in pre-order: its span, what it is called and its type. Two spaces stand before

@@ -12,11 +12,9 @@
 #![tactic(auto)]
 
 mod called;
-mod canonical_text;
 mod checked;
 mod checked_node;
 mod explanation;
-mod kind_levels;
 mod kind_words;
 mod lambda_depth;
 mod laws;
@@ -24,6 +22,7 @@ mod list_cow;
 mod needed_paths;
 mod node_list;
 mod path_steps;
+mod printed_list;
 mod property_paths;
 mod stored_filter;
 

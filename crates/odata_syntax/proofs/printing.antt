@@ -3,6 +3,7 @@ pub mod Appended
 pub mod BareTexts
 pub mod Enumerations
 pub mod Forms
+pub mod Joints
 pub mod Levels
 pub mod Stack
 pub mod LowerCase

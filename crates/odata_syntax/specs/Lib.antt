@@ -13,6 +13,7 @@ pub mod NormalForm
 pub mod Parse
 pub mod Places
 pub mod PostOrder
+pub mod PrintedTree
 pub mod ReadBack
 pub mod Spans
 pub mod TextTree

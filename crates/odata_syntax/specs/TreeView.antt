@@ -1,8 +1,10 @@
 -- The tree that a node of the code stands for.
+use Rattle.std.specs.Borrow.{Bor}
 use Rattle.std.specs.Prelude.{List, None, Some, map, string_bytes}
 use Rattle.odata_syntax.specs.declared.node.Node.{Node, fold-Node}
 use Rattle.odata_syntax.specs.declared.node.Node.TheOpen.{Node-F}
 use Rattle.odata_syntax.specs.declared.node.Quantifier.{Quantifier}
+use Rattle.odata_syntax.specs.PrintedTree.{PrintedTrees}
 use Rattle.odata_syntax.specs.Tree.{Tree, Trees, any_item, binary, call, count, has, in_list, in_path, it, lambda, literal, logical_not, member, name, negation, node, trees_of_list}
 
 -- one level, with each child already seen as its tree
@@ -33,3 +35,13 @@ tree_of = fold-Node Tree tree_step
 -- nodes one after another
 abbrev pub trees_of : List Node → Trees
 trees_of nodes = trees_of_list (map tree_of nodes)
+
+-- the same, as the printer asks for them
+abbrev pub trees_of_nodes : PrintedTrees (Bor Node) (Bor (List Node))
+trees_of_nodes =
+    record {
+      tree_of = λ there. tree_of there.now;
+      trees_of = λ those. trees_of those.now;
+      HasTree = λ there. Unit {0};
+      HaveTrees = λ those. Unit {0};
+    }

@@ -35,7 +35,9 @@ pub use node::{LiteralKind, Node, Quantifier};
 pub use node_places::{NO_NODE, Place};
 pub use normal_form::normal;
 pub use parser::{TextOrSyntaxFault, parse, parse_text};
-pub use printer::{operator_word, print, write_literal};
+pub use printer::{
+    AfterFirst, NodeShape, PrintedTree, operator_word, print, print_tree, write_literal,
+};
 pub use syntax_fault::SyntaxFault;
 pub use syntax_laws::{
     children_apart, faults_have_no_tree, first_run_parses, name_eq_is_unended, node_spans,

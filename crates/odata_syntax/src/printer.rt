@@ -1,264 +1,270 @@
 //! The canonical text of a tree (OData URL Conventions 4.01, section 5.1.1).
 
-ghost use Rattle.std.specs.Prelude.{◌≡◌, ◌∷◌, [], ◌++◌, OnOk, IfOk, map, string_bytes};
+ghost use Rattle.std.specs.Prelude.{◌≡◌, ◌++◌, IfOk, map, string_bytes};
 ghost use Rattle.odata_syntax.specs.CanonicalText.{IsCanonicalText};
 ghost use Rattle.odata_syntax.specs.Tree.{shape_of};
-ghost use Rattle.odata_syntax.specs.TreeView.{tree_of, trees_of};
-ghost use Rattle.odata_syntax.specs.private.Printer.{Writes, after_first, listed, operand, piece_of, plain};
+ghost use Rattle.odata_syntax.specs.TreeView.{tree_of};
+ghost use Rattle.odata_syntax.specs.private.Printer.{AllHaveTrees, HasTrees, IsReady, Writes, after_first};
+ghost use Rattle.odata_syntax.specs.private.Printer.{listed, operand, piece_of, waiting};
 
 mod enumeration_text;
 mod literal_text;
-mod node_level;
 mod operator_words;
+mod printed_expr;
+mod printed_tree;
+mod shape_levels;
 
-use crate::level::{BASE, PATH, PRIMARY, UNARY, operator_level};
-use crate::{Expr, Node};
+use crate::level::{BASE, PATH, operator_level};
+use crate::{Expr, Quantifier};
 pub use literal_text::write_literal;
-use node_level::node_level;
 pub use operator_words::operator_word;
+use operator_words::spaced_word;
+pub use printed_tree::{AfterFirst, NodeShape, PrintedTree};
+use shape_levels::shape_levels;
 use std::alloc::{AllocError, Global};
 
 /// What is still to be written.
 #[derive(Clone, Copy, Debug)]
-enum PrintTask<'t> {
+pub(crate) enum PrintTask<N, I> {
     /// A node, in parentheses where it binds less tightly than needed.
-    Operand { node: &'t Node, needed: u8 },
+    Operand { node: N, needed: u8 },
     /// What a node has after its first operand.
-    Joint { node: &'t Node },
+    Joint { node: N },
     /// Further items, each after a comma.
-    Further { items: &'t [Node] },
+    Further { items: I },
     /// The end of a group.
     Close,
 }
 
 /// Returns the canonical text of an expression. It has literals in their canonical spellings, words in lower case, and
-/// parentheses only where an operand binds less tightly than its position needs. Pending work is on an explicit stack,
-/// so nothing recurses, however deep the tree is.
+/// parentheses only where an operand binds less tightly than its position needs.
 pub fn print(alloc: Global, expr: &Expr) -> Result<String, AllocError>
     ensures { IfOk result (λ text. IsCanonicalText (tree_of expr.now) (string_bytes text)) }
 {
-    let mut text = String::new(alloc);
+    print_tree(alloc, &expr, expr.root(), 0)
+}
+
+/// Returns the canonical text of a node of a tree, as [`print`] does. The text has room for so many bytes from the
+/// start. What is still to be written waits on a stack, so nothing recurses, however deep the tree is.
+pub fn print_tree<T: PrintedTree>(
+    alloc: Global,
+    tree: &T,
+    root: T::Node,
+    room: usize,
+) -> Result<String, AllocError>
+    requires { (T.trees tree.now).HasTree root }
+    ensures { IfOk result (λ text. IsCanonicalText ((T.trees tree.now).tree_of root) (string_bytes text)) }
+{
+    let mut text = String::with_capacity(alloc, room)?;
     let mut pending = Vec::new(alloc);
-    pending.push(PrintTask::Operand {
-        node: expr.root(),
+    let mut next = Some(PrintTask::Operand {
+        node: root,
         needed: 0,
-    })?;
-    while let Some(task) = pending.pop() {
-        write_task(task, &mut text, &mut pending)?;
+    });
+    while let Some(task) = next {
+        next = write_task(tree, task, &mut text, &mut pending)?;
     }
     Ok(text)
 }
 
-/// Carries out a task, or its beginning, and puts the rest on the stack: of a node that binds less tightly than needed
-/// `(`, and of further items a comma.
-fn write_task<'t>(
-    task: PrintTask<'t>,
+/// Carries out a task, or its beginning, and puts the rest on the stack. Returns the task that is next, the last one of
+/// the rest; `None` where nothing is left.
+#[inline(always)]
+fn write_task<T: PrintedTree>(
+    tree: &T,
+    task: PrintTask<T::Node, T::Items>,
     text: &mut String,
-    pending: &mut Vec<PrintTask<'t>>,
-) -> Result<(), AllocError>
-    ensures { OnOk result (Writes (piece_of task.entry) (string_bytes text.old) (string_bytes text.new)
-        (map piece_of pending.old.items) (map piece_of pending.new.items)) }
+    pending: &mut Vec<PrintTask<T::Node, T::Items>>,
+) -> Result<Option<PrintTask<T::Node, T::Items>>, AllocError>
+    requires { HasTrees (T.trees tree.now) task }
+    ensures written { IfOk result (λ next. Writes (piece_of (T.trees tree.now) task)
+        (string_bytes text.old) (string_bytes text.new) (map (piece_of (T.trees tree.now)) pending.old.items)
+        (map (piece_of (T.trees tree.now)) (waiting pending.new.items next))) }
+    ensures ready { IfOk result (λ next. AllHaveTrees (T.trees tree.now) pending.old.items
+        → IsReady (T.trees tree.now) pending.new.items next) }
 {
     match task {
-        PrintTask::Operand { node, needed } => {
-            if node_level(node) < needed {
-                text.push('(')?;
-                pending.push(PrintTask::Close)?;
-                return put_operand(node, 0, pending);
-            }
-            write_node(node, text, pending)
-        }
-        PrintTask::Joint { node } => write_joint(node, text, pending),
+        PrintTask::Operand { node, needed } => write_operand(tree, node, needed, text, pending),
+        PrintTask::Joint { node } => write_joint(tree, node, text, pending),
         PrintTask::Further { items } => {
-            if items.is_empty() {
-                return Ok(());
-            }
+            let Some((first, rest)) = tree.split_items(items) else {
+                return Ok(pending.pop());
+            };
             text.push(',')?;
-            put_items(items, pending)
+            pending.push(PrintTask::Further { items: rest })?;
+            Ok(Some(PrintTask::Operand {
+                node: first,
+                needed: 0,
+            }))
         }
-        PrintTask::Close => text.push(')'),
+        PrintTask::Close => {
+            text.push(')')?;
+            Ok(pending.pop())
+        }
     }
 }
 
-/// Writes a literal, a name or `$it`, a sign, or the beginning of a call; the operands wait.
-fn write_node<'t>(
-    node: &'t Node,
+/// Writes a literal, a name or `$it`, a sign, or the beginning of a call; of a node that binds less tightly than needed
+/// `(`, after which it is next itself.
+fn write_operand<T: PrintedTree>(
+    tree: &T,
+    node: T::Node,
+    needed: u8,
     text: &mut String,
-    pending: &mut Vec<PrintTask<'t>>,
-) -> Result<(), AllocError>
-    ensures { OnOk result (Writes (operand 0 (tree_of node.now)) (string_bytes text.old) (string_bytes text.new)
-        (map piece_of pending.old.items) (map piece_of pending.new.items)) }
+    pending: &mut Vec<PrintTask<T::Node, T::Items>>,
+) -> Result<Option<PrintTask<T::Node, T::Items>>, AllocError>
+    requires { (T.trees tree.now).HasTree node }
+    ensures written { IfOk result (λ next. Writes (operand needed ((T.trees tree.now).tree_of node))
+        (string_bytes text.old) (string_bytes text.new) (map (piece_of (T.trees tree.now)) pending.old.items)
+        (map (piece_of (T.trees tree.now)) (waiting pending.new.items next))) }
+    ensures ready { IfOk result (λ next. AllHaveTrees (T.trees tree.now) pending.old.items
+        → IsReady (T.trees tree.now) pending.new.items next) }
 {
-    match node {
-        Node::Lit {
-            kind,
-            text: spelling,
-            ..
-        } => write_literal(text, *kind, spelling),
-        Node::It { .. } => text.push_str("$it"),
-        Node::Name { name, .. } => text.push_str(name),
-        Node::Neg { operand, .. } => {
-            text.push_str("- ")?;
-            put_operand(operand, UNARY, pending)
+    let shape = tree.shape(node);
+    let (own, first_needed) = shape_levels(&shape);
+    if own < needed {
+        text.push('(')?;
+        pending.push(PrintTask::Close)?;
+        return Ok(Some(PrintTask::Operand { node, needed: 0 }));
+    }
+    match &shape {
+        NodeShape::Literal { kind, spelling } => {
+            write_literal(text, *kind, spelling)?;
+            Ok(pending.pop())
         }
-        Node::Not { operand, .. } => {
-            text.push_str("not ")?;
-            put_operand(operand, UNARY, pending)
+        NodeShape::It => {
+            text.push_str("$it")?;
+            Ok(pending.pop())
         }
-        Node::Call {
-            name,
-            arguments,
-            ..
-        } => {
+        NodeShape::Name { name } => {
             text.push_str(name)?;
-            write_list("(", arguments, text, pending)
+            Ok(pending.pop())
         }
-        Node::Member { base, .. } => put_joint(node, 0, base, pending),
-        Node::Count { base, .. } => put_joint(node, 0, base, pending),
-        Node::Any { base, lambda, .. } => match lambda {
-            None => put_joint(node, 0, base, pending),
-            Some(_) => put_joint(node, 0, base, pending),
-        },
-        Node::All { base, .. } => put_joint(node, 0, base, pending),
-        Node::Binary { operator, left, .. } => {
-            put_joint(node, operator_level(*operator), left, pending)
+        NodeShape::Neg { operand } => {
+            text.push_str("- ")?;
+            Ok(Some(PrintTask::Operand {
+                node: *operand,
+                needed: first_needed,
+            }))
         }
-        Node::Has { left, .. } => put_joint(node, PRIMARY, left, pending),
-        Node::InList { left, .. } => put_joint(node, PRIMARY, left, pending),
-        Node::InPath { left, .. } => put_joint(node, PRIMARY, left, pending),
+        NodeShape::Not { operand } => {
+            text.push_str("not ")?;
+            Ok(Some(PrintTask::Operand {
+                node: *operand,
+                needed: first_needed,
+            }))
+        }
+        NodeShape::Call { name, arguments } => {
+            text.push_str(name)?;
+            text.push('(')?;
+            pending.push(PrintTask::Close)?;
+            put_items(tree, *arguments, pending)
+        }
+        NodeShape::Joined { first, .. } => {
+            pending.push(PrintTask::Joint { node })?;
+            Ok(Some(PrintTask::Operand {
+                node: *first,
+                needed: first_needed,
+            }))
+        }
     }
 }
 
-/// Puts a node on the stack as what it has after its first operand, and that operand on top.
-fn put_joint<'t>(
-    node: &'t Node,
-    needed: u8,
-    first: &'t Node,
-    pending: &mut Vec<PrintTask<'t>>,
-) -> Result<(), AllocError>
-    ensures { OnOk result (map piece_of pending.new.items ≡ map piece_of pending.old.items
-        ++ (after_first (shape_of (tree_of node.now)) ∷ operand needed (tree_of first.now) ∷ [])) }
-{
-    pending.push(PrintTask::Joint { node })?;
-    put_operand(first, needed, pending)
-}
-
-/// Writes what a node has after its first operand, up to the next one, and puts that on the stack.
-fn write_joint<'t>(
-    node: &'t Node,
+/// Writes what a node has after its first operand, up to the next one.
+fn write_joint<T: PrintedTree>(
+    tree: &T,
+    node: T::Node,
     text: &mut String,
-    pending: &mut Vec<PrintTask<'t>>,
-) -> Result<(), AllocError>
-    ensures { OnOk result (Writes (after_first (shape_of (tree_of node.now))) (string_bytes text.old)
-        (string_bytes text.new) (map piece_of pending.old.items) (map piece_of pending.new.items)) }
+    pending: &mut Vec<PrintTask<T::Node, T::Items>>,
+) -> Result<Option<PrintTask<T::Node, T::Items>>, AllocError>
+    requires { (T.trees tree.now).HasTree node }
+    ensures written { IfOk result (λ next. Writes (after_first (shape_of ((T.trees tree.now).tree_of node)))
+        (string_bytes text.old) (string_bytes text.new) (map (piece_of (T.trees tree.now)) pending.old.items)
+        (map (piece_of (T.trees tree.now)) (waiting pending.new.items next))) }
+    ensures ready { IfOk result (λ next. AllHaveTrees (T.trees tree.now) pending.old.items
+        → IsReady (T.trees tree.now) pending.new.items next) }
 {
-    match node {
-        Node::Member { name, .. } => {
+    let NodeShape::Joined { rest, .. } = tree.shape(node) else {
+        return Ok(pending.pop());
+    };
+    match rest {
+        AfterFirst::Member { name } => {
             text.push('/')?;
-            text.push_str(name)
+            text.push_str(name)?;
+            Ok(pending.pop())
         }
-        Node::Count { .. } => text.push_str("/$count"),
-        Node::Any { lambda, .. } => match lambda {
-            None => text.push_str("/any()"),
-            Some((variable, body)) => write_body("/any(", variable, body, text, pending),
-        },
-        Node::All { variable, body, .. } => write_body("/all(", variable, body, text, pending),
-        Node::Binary {
-            operator,
-            right,
-            ..
+        AfterFirst::Count => {
+            text.push_str("/$count")?;
+            Ok(pending.pop())
+        }
+        AfterFirst::AnyItem => {
+            text.push_str("/any()")?;
+            Ok(pending.pop())
+        }
+        AfterFirst::Lambda {
+            quantifier,
+            variable,
+            body,
         } => {
-            let needed = operator_level(*operator) + 1;
-            write_right(operator_word(*operator), needed, right, text, pending)
+            text.push_str(match quantifier {
+                Quantifier::Any => "/any(",
+                Quantifier::All => "/all(",
+            })?;
+            text.push_str(variable)?;
+            text.push(':')?;
+            pending.push(PrintTask::Close)?;
+            Ok(Some(PrintTask::Operand {
+                node: body,
+                needed: 0,
+            }))
         }
-        Node::Has { right, .. } => write_right("has", BASE, right, text, pending),
-        Node::InPath { path, .. } => write_right("in", PATH, path, text, pending),
-        Node::InList { items, .. } => write_list(" in (", items, text, pending),
-        Node::Lit { .. } => Ok(()),
-        Node::It { .. } => Ok(()),
-        Node::Name { .. } => Ok(()),
-        Node::Neg { .. } => Ok(()),
-        Node::Not { .. } => Ok(()),
-        Node::Call { .. } => Ok(()),
+        AfterFirst::Binary { operator, right } => {
+            text.push_str(spaced_word(operator))?;
+            Ok(Some(PrintTask::Operand {
+                node: right,
+                needed: operator_level(operator) + 1,
+            }))
+        }
+        AfterFirst::Has { right } => {
+            text.push_str(" has ")?;
+            Ok(Some(PrintTask::Operand {
+                node: right,
+                needed: BASE,
+            }))
+        }
+        AfterFirst::InPath { path } => {
+            text.push_str(" in ")?;
+            Ok(Some(PrintTask::Operand {
+                node: path,
+                needed: PATH,
+            }))
+        }
+        AfterFirst::InList { items } => {
+            text.push_str(" in (")?;
+            pending.push(PrintTask::Close)?;
+            put_items(tree, items, pending)
+        }
     }
 }
 
-/// Writes a word between spaces, and puts the operand after it on the stack.
-fn write_right<'t>(
-    word: &str,
-    needed: u8,
-    right: &'t Node,
-    text: &mut String,
-    pending: &mut Vec<PrintTask<'t>>,
-) -> Result<(), AllocError>
-    ensures text { OnOk result (string_bytes text.new ≡ string_bytes text.old ++ (32 ∷ (word.now ++ 32 ∷ []))) }
-    ensures pending { OnOk result (map piece_of pending.new.items ≡ map piece_of pending.old.items
-        ++ operand needed (tree_of right.now) ∷ []) }
+/// Puts items on the stack, of which the first one is next; nothing where there is none.
+fn put_items<T: PrintedTree>(
+    tree: &T,
+    items: T::Items,
+    pending: &mut Vec<PrintTask<T::Node, T::Items>>,
+) -> Result<Option<PrintTask<T::Node, T::Items>>, AllocError>
+    requires { (T.trees tree.now).HaveTrees items }
+    ensures listed { IfOk result (λ next. map (piece_of (T.trees tree.now)) (waiting pending.new.items next)
+        ≡ map (piece_of (T.trees tree.now)) pending.old.items ++ listed ((T.trees tree.now).trees_of items)) }
+    ensures ready { IfOk result (λ next. AllHaveTrees (T.trees tree.now) pending.old.items
+        → IsReady (T.trees tree.now) pending.new.items next) }
 {
-    text.push(' ')?;
-    text.push_str(word)?;
-    text.push(' ')?;
-    put_operand(right, needed, pending)
-}
-
-/// Writes what stands before the variable of a lambda expression, the variable and its colon, and puts the body on the
-/// stack, with `)` below it.
-fn write_body<'t>(
-    before: &str,
-    variable: &str,
-    body: &'t Node,
-    text: &mut String,
-    pending: &mut Vec<PrintTask<'t>>,
-) -> Result<(), AllocError>
-    ensures text { OnOk result (string_bytes text.new
-        ≡ string_bytes text.old ++ (before.now ++ (variable.now ++ 58 ∷ []))) }
-    ensures pending { OnOk result (map piece_of pending.new.items ≡ map piece_of pending.old.items
-        ++ (plain (41 ∷ []) ∷ operand 0 (tree_of body.now) ∷ [])) }
-{
-    text.push_str(before)?;
-    text.push_str(variable)?;
-    text.push(':')?;
-    pending.push(PrintTask::Close)?;
-    put_operand(body, 0, pending)
-}
-
-/// Writes what stands before items, and puts them on the stack, with `)` below them.
-fn write_list<'t>(
-    before: &str,
-    items: &'t [Node],
-    text: &mut String,
-    pending: &mut Vec<PrintTask<'t>>,
-) -> Result<(), AllocError>
-    ensures text { OnOk result (string_bytes text.new ≡ string_bytes text.old ++ before.now) }
-    ensures pending { OnOk result (map piece_of pending.new.items ≡ map piece_of pending.old.items
-        ++ (plain (41 ∷ []) ∷ listed (trees_of items.now))) }
-{
-    text.push_str(before)?;
-    pending.push(PrintTask::Close)?;
-    put_items(items, pending)
-}
-
-/// Puts items on the stack, the first on top.
-fn put_items<'t>(items: &'t [Node], pending: &mut Vec<PrintTask<'t>>) -> Result<(), AllocError>
-    ensures { OnOk result (map piece_of pending.new.items
-        ≡ map piece_of pending.old.items ++ listed (trees_of items.now)) }
-{
-    let Some((first, rest)) = items.split_first() else {
-        return Ok(());
+    let Some((first, rest)) = tree.split_items(items) else {
+        return Ok(pending.pop());
     };
     pending.push(PrintTask::Further { items: rest })?;
-    put_operand(first, 0, pending)
-}
-
-/// Puts an operand on the stack.
-fn put_operand<'t>(
-    node: &'t Node,
-    needed: u8,
-    pending: &mut Vec<PrintTask<'t>>,
-) -> Result<(), AllocError>
-    ensures { OnOk result (map piece_of pending.new.items ≡ map piece_of pending.old.items
-        ++ operand needed (tree_of node.now) ∷ []) }
-{
-    pending.push(PrintTask::Operand { node, needed })?;
-    Ok(())
+    Ok(Some(PrintTask::Operand {
+        node: first,
+        needed: 0,
+    }))
 }

@@ -59,15 +59,10 @@ passed j stops =
     ∙ ap (λ (xs : List ℕ). still_around j stops ++ xs) (stopped_alone j)
     ∙ append-nil (still_around j stops)
 
-one_longer : (stops : List ℕ) (j : ℕ) → length (stops ++ j ∷ []) ≡ length stops + 1
-one_longer stops j = length-append stops (j ∷ [])
-
 -- a node at its index, and what is reported after it
 top_reported :
     (schema : SchemaModel) (n : ℕ) (scope : Scope) (list : FlatTree) (i j start stop : ℕ) (shape : Shape) (stops : List ℕ)
-    → IsTop schema n scope list i j start stop shape OfAnyValue
-    → i < j
-    → StopBehind j stops
+    → IsTop schema n scope list i j start stop shape OfAnyValue → i < j → StopBehind j stops
     → reported_depths i (drop i list.nodes) stops ≡ length stops ∷ reported_depths (i + 1) (drop (i + 1) list.nodes) (stops ++ j ∷ [])
 top_reported schema n scope list i j start stop shape stops top before all =
     ap (λ (nodes : List CheckedNode). reported_depths i nodes stops) (drop_at list.nodes i top.found top.stands_at)
@@ -135,7 +130,7 @@ node_reported : (start stop : ℕ) (shape : Shape) → AllByRecursion HasDepths 
 node_reported start stop shape reported list i j stops between all =
     let line = children_line between.schema between.filtered list between.scope (i + 1) j shape between.stands.children in
     let deep : flat_map (depths (length (stops ++ j ∷ []))) (children_of shape) ≡ depths_below (length stops + 1) shape =
-    ap (λ (k : ℕ). flat_map (depths k) (children_of shape)) (one_longer stops j) ∙ sym (below_depths (length stops + 1) shape) in
+    ap (λ (k : ℕ). flat_map (depths k) (children_of shape)) (length-append stops (j ∷ [])) ∙ sym (below_depths (length stops + 1) shape) in
     closed list i j stops (depths_below (length stops + 1) shape)
     (top_reported between.schema between.filtered between.scope list i j start stop shape stops between.stands.top (between_onward list i j (node start stop shape) between) all)
     (line_reported (children_of shape) reported list (i + 1) j (stops ++ j ∷ []) line (one_more j stops all)

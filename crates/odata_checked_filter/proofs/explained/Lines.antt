@@ -52,8 +52,7 @@ begun filter text is empty =
 -- what a node of the list is called
 called :
     (filter : Filter) (scope : Scope) (k j : ℕ) (tree : Tree) (found : CheckedNode) (beside : List ℕ)
-    → Lies filter.schema filter.filtered scope filter.list k j tree
-    → slice_get filter.list.nodes k ≡ Some found
+    → Lies filter.schema filter.filtered scope filter.list k j tree → slice_get filter.list.nodes k ≡ Some found
     → slice_get filter.list.texts k ≡ Some beside
     → kind_label found.kind beside ≡ node_label (variable_names scope) (shape_of tree)
 called filter scope k j (node start stop shape) found beside stands here text =
@@ -65,19 +64,15 @@ called filter scope k j (node start stop shape) found beside stands here text =
 -- its line
 line_same :
     (schema : SchemaModel) (depth : ℕ) (found : CheckedNode) (beside : List ℕ) (part : Tree) (variables : List (List ℕ))
-    → found.span ≡ span_of_tree part
-    → kind_label found.kind beside ≡ node_label variables (shape_of part)
+    → found.span ≡ span_of_tree part → kind_label found.kind beside ≡ node_label variables (shape_of part)
     → listed_line schema depth found beside ≡ node_line schema depth (record { variables = variables; part = part }) found.edm_type
 line_same schema depth found beside part variables span label = rw (span, label) refl
 
 -- the last line is that of the node at the index
 each_more :
     (filter : Filter) (lines : List (List ℕ)) (line : List ℕ) (place k : ℕ) (other : List ℕ)
-    → length lines ≡ place
-    → ((i : ℕ) (l : List ℕ) → slice_get lines i ≡ Some l → IsNodeLine filter i l)
-    → IsNodeLine filter place line
-    → slice_get (lines ++ line ∷ []) k ≡ Some other
-    → IsNodeLine filter k other
+    → length lines ≡ place → ((i : ℕ) (l : List ℕ) → slice_get lines i ≡ Some l → IsNodeLine filter i l)
+    → IsNodeLine filter place line → slice_get (lines ++ line ∷ []) k ≡ Some other → IsNodeLine filter k other
 each_more filter lines line place k other many each last found =
     elim (get_parts lines (line ∷ []) k other found) [
       | inl h ↦ each k other h
@@ -94,10 +89,8 @@ each_more filter lines line place k other many each last found =
 -- one more line was put after the others
 pub one_reported :
     (filter : Filter) (place : ℕ) (stops stops' text text' : List ℕ)
-    → IsFilter filter
-    → IsReported filter place stops text
-    → IsLinePut filter.schema filter.list place stops stops' text text'
-    → IsReported filter (place + 1) stops' text'
+    → IsFilter filter → IsReported filter place stops text
+    → IsLinePut filter.schema filter.list place stops stops' text text' → IsReported filter (place + 1) stops' text'
 one_reported filter place stops stops' text text' is reported put =
     let nodes = filter.list.nodes in
     let tree = tree_of_filter filter in
@@ -140,9 +133,7 @@ one_reported filter place stops stops' text text' is reported put =
 -- where each node has its line, the filter is explained
 pub all_reported :
     (filter : Filter) (place : ℕ) (stops text : List ℕ)
-    → IsFilter filter
-    → place ≡ length filter.list.nodes
-    → IsReported filter place stops text
+    → IsFilter filter → place ≡ length filter.list.nodes → IsReported filter place stops text
     → IsExplanation filter text
 all_reported filter place stops text is all reported = record {
   lines = reported.lines;

@@ -69,9 +69,7 @@ module _ (schema : SchemaModel) (n : ℕ) (list : FlatTree) where
 
   two_line :
       (scope at : Scope) (i m j : ℕ) (left right : Tree)
-      → Lies schema n scope list i m left
-      → Lies schema n at list m j right
-      → AreInLine list i j (left ∷ right ∷ [])
+      → Lies schema n scope list i m left → Lies schema n at list m j right → AreInLine list i j (left ∷ right ∷ [])
   two_line scope at i m j left right first second =
       record { middle = m; left = record { schema = schema; filtered = n; scope = scope; stands = first }; right = one_line at m j right second }
 
@@ -110,9 +108,7 @@ module _ (schema : SchemaModel) (n : ℕ) (list : FlatTree) where
 
 pub line_behind :
     (list : FlatTree) (i m j : ℕ) (trees more : List Tree)
-    → AreInLine list i m trees
-    → AreInLine list m j more
-    → AreInLine list i j (trees ++ more)
+    → AreInLine list i m trees → AreInLine list m j more → AreInLine list i j (trees ++ more)
 line_behind list i m j [] more line behind = subst (λ (k : ℕ). AreInLine list k j more) (sym line) behind
 line_behind list i m j (tree ∷ trees) more line behind =
     record { middle = line.middle; left = line.left; right = line_behind list line.middle m j trees more line.right behind }

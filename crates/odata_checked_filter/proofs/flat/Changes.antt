@@ -32,20 +32,14 @@ put_changes list place put text = record {
 
 -- so what lies before the change or after it is kept
 kept_in : (i j from to : ℕ) (old new : FlatTree) → IsKeptOutside i j old new → (to ≤ i) ⊎ (j ≤ from) → IsKeptIn from to old new
-kept_in i j from to old new kept (inl before) =
-    let b : to ≤ i = before in
-    record {
-      nodes = λ k found after until at. kept.nodes k (inl (omega arith)) ∙ at;
-      values = kept.values;
-      texts = λ k text after until at. kept.texts k (inl (omega arith)) ∙ at;
-    }
-kept_in i j from to old new kept (inr after) =
-    let a : j ≤ from = after in
-    record {
-      nodes = λ k found after until at. kept.nodes k (inr (omega arith)) ∙ at;
-      values = kept.values;
-      texts = λ k text after until at. kept.texts k (inr (omega arith)) ∙ at;
-    }
+kept_in i j from to old new kept outside = record {
+  nodes = λ k found after until at. kept.nodes k (side k after until) ∙ at;
+  values = kept.values;
+  texts = λ k text after until at. kept.texts k (side k after until) ∙ at;
+}
+  where
+    side : (k : ℕ) → from ≤ k → k < to → (k < i) ⊎ (j ≤ k)
+    side k after until = elim outside [ inl before ↦ inl (let b : to ≤ i = before in omega arith) | inr behind ↦ inr (let a : j ≤ from = behind in omega arith) ]
 
 pub kept_stands : KeptStands
 kept_stands schema n scope old new i j from to tree kept outside stands =

@@ -35,15 +35,14 @@ one_passed : (j : ℕ) (t : PlacedTree) (ts : List PlacedTree) → t.place < j �
 one_passed j t ts earlier = rw (above t.place j earlier) refl
 
 -- trees, as a list and again as trees
-trees_again : (trees : Trees) → trees_of_list (list_of_trees trees) ≡ trees
+pub trees_again : (trees : Trees) → trees_of_list (list_of_trees trees) ≡ trees
 trees_again no_trees = refl
 trees_again (more_trees tree trees) = ap (λ (ts : Trees). more_trees tree ts) (trees_again trees)
 
 -- the shape of a node of its kind
 kind_shape :
     (slots : Slots) (root : List ℕ) (scope : Scope) (shape : Shape) (kind : NodeKind)
-    → HasForm slots root scope shape kind
-    → shape_of_kind kind (text_of_shape shape) (children_of shape) ≡ shape
+    → HasForm slots root scope shape kind → shape_of_kind kind (text_of_shape shape) (children_of shape) ≡ shape
 kind_shape slots root scope shape kind (list_form {left = left} {items = items}) = ap (λ (ts : Trees). in_list left ts) (trees_again items)
 kind_shape slots root scope shape kind (now_form {arguments = arguments} named) =
     ap (λ (ts : Trees). call (codes "now") ts) (trees_again arguments) ∙ ap (λ (called : List ℕ). call called arguments) named
@@ -57,13 +56,8 @@ planted texts i found behind = record { place = i; tree = tree_at texts i found 
 
 planted_same :
     (texts : List (List ℕ)) (i j start stop : ℕ) (found : CheckedNode) (behind : List PlacedTree) (children : List Tree) (rest : List PlacedTree) (shape : Shape) (text : List ℕ)
-    → slice_get texts i ≡ Some text
-    → found.span.start ≡ start
-    → found.span.stop ≡ stop
-    → found.stop ≡ j
-    → trees_before j behind ≡ children
-    → trees_from j behind ≡ rest
-    → shape_of_kind found.kind text children ≡ shape
+    → slice_get texts i ≡ Some text → found.span.start ≡ start → found.span.stop ≡ stop → found.stop ≡ j
+    → trees_before j behind ≡ children → trees_from j behind ≡ rest → shape_of_kind found.kind text children ≡ shape
     → planted texts i found behind ≡ record { place = i; tree = node start stop shape } ∷ rest
 planted_same texts i j start stop found behind children rest shape text at starts stops last before from shaped =
     rw (at, starts, stops, last, before, from, shaped) refl
@@ -73,8 +67,7 @@ top_planted :
     (schema : SchemaModel) (n : ℕ) (scope : Scope) (list : FlatTree) (i j start stop : ℕ) (shape : Shape) (children : List Tree) (behind rest : List PlacedTree)
     → (top : IsTop schema n scope list i j start stop shape OfAnyValue)
     → shape_of_kind top.found.kind (text_of_shape shape) children ≡ shape
-    → forest list.texts (i + 1) (drop (i + 1) list.nodes) ≡ behind
-    → trees_before j behind ≡ children
+    → forest list.texts (i + 1) (drop (i + 1) list.nodes) ≡ behind → trees_before j behind ≡ children
     → trees_from j behind ≡ rest
     → forest list.texts i (drop i list.nodes) ≡ record { place = i; tree = node start stop shape } ∷ rest
 top_planted schema n scope list i j start stop shape children behind rest top shaped is_behind before from =
@@ -97,11 +90,9 @@ none_planted list i j same = record {
 -- one tree in front of others
 first_planted :
     (list : FlatTree) (i m j : ℕ) (tree : Tree) (trees : List Tree)
-    → i < m
-    → m ≤ j
+    → i < m → m ≤ j
     → forest list.texts i (drop i list.nodes) ≡ record { place = i; tree = tree } ∷ forest list.texts m (drop m list.nodes)
-    → ArePlanted list.texts list.nodes m j trees
-    → ArePlanted list.texts list.nodes i j (tree ∷ trees)
+    → ArePlanted list.texts list.nodes m j trees → ArePlanted list.texts list.nodes i j (tree ∷ trees)
 first_planted list i m j tree trees first onward here rest =
     let behind : List PlacedTree = forest list.texts m (drop m list.nodes) in
     let t : PlacedTree = record { place = i; tree = tree } in
@@ -112,7 +103,7 @@ first_planted list i m j tree trees first onward here rest =
     }
 
 -- from where a tree stands on, the forest is the tree and the forest from where it stops
-abbrev IsPlanted : Tree → Type 0
+abbrev pub IsPlanted : Tree → Type 0
 IsPlanted tree =
     (list : FlatTree) (i j : ℕ) → StandsBetween list i j tree
     → forest list.texts i (drop i list.nodes) ≡ record { place = i; tree = tree } ∷ forest list.texts j (drop j list.nodes)
@@ -136,9 +127,20 @@ node_planted start stop shape planted list i j between =
     (form_of (slots_of schema) (type_name_at schema between.filtered) between.scope shape top.found.kind top.kind))
     refl below.before below.from
 
+pub is_planted : (tree : Tree) → IsPlanted tree
+is_planted = by_children IsPlanted node_planted
+
+all_planted : (trees : List Tree) → AllByRecursion IsPlanted trees
+all_planted [] = tt
+all_planted (tree ∷ trees) = (is_planted tree, all_planted trees)
+
+-- trees that lie one after another are those before where they stop
+pub line_before : (list : FlatTree) (i j : ℕ) (trees : List Tree) → AreInLine list i j trees → trees_before j (forest list.texts i (drop i list.nodes)) ≡ trees
+line_before list i j trees line = (line_planted trees (all_planted trees) list i j line).before
+
 -- the whole list stands for one tree
 pub whole_tree :
     (schema : SchemaModel) (n : ℕ) (scope : Scope) (list : FlatTree) (j : ℕ) (tree : Tree) → Stands schema n scope list 0 j tree → tree_of_nodes list ≡ tree
 whole_tree schema n scope list j tree stands =
-    ap first_tree (by_children IsPlanted node_planted tree list 0 j
+    ap first_tree (is_planted tree list 0 j
     (record { schema = schema; filtered = n; scope = scope; stands = stands_lie schema n scope list 0 j tree stands }))

@@ -64,8 +64,7 @@ form_of slots root scope _ _ is = absurd is
 -- of the tree that lies at an index
 pub form_there :
     (schema : SchemaModel) (n : ℕ) (scope : Scope) (list : FlatTree) (place stop start end : ℕ) (shape : Shape) (found : CheckedNode)
-    → Lies schema n scope list place stop (node start end shape)
-    → slice_get list.nodes place ≡ Some found
+    → Lies schema n scope list place stop (node start end shape) → slice_get list.nodes place ≡ Some found
     → HasForm (slots_of schema) (type_name_at schema n) scope shape found.kind
 form_there schema n scope list place stop start end shape found stands at =
     subst (λ (f : CheckedNode). HasForm (slots_of schema) (type_name_at schema n) scope shape f.kind)
@@ -75,9 +74,7 @@ form_there schema n scope list place stop start end shape found stands at =
 -- where the kind is known
 pub form_at :
     (schema : SchemaModel) (n : ℕ) (scope : Scope) (list : FlatTree) (place stop start end : ℕ) (shape : Shape) (found : CheckedNode) (kind : NodeKind)
-    → Lies schema n scope list place stop (node start end shape)
-    → slice_get list.nodes place ≡ Some found
-    → found.kind ≡ kind
-    → HasForm (slots_of schema) (type_name_at schema n) scope shape kind
+    → Lies schema n scope list place stop (node start end shape) → slice_get list.nodes place ≡ Some found
+    → found.kind ≡ kind → HasForm (slots_of schema) (type_name_at schema n) scope shape kind
 form_at schema n scope list place stop start end shape found kind stands at is =
     subst (λ (k : NodeKind). HasForm (slots_of schema) (type_name_at schema n) scope shape k) is (form_there schema n scope list place stop start end shape found stands at)

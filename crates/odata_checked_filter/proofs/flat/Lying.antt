@@ -35,20 +35,14 @@ value_kept old new IsIt _ kept is = absurd is
 
 own_kept :
     (old new : FlatTree) (slots : Slots) (shape : Shape) (kind : NodeKind)
-    → ValuesKept old new
-    → HasOwnValue old.values slots shape kind
-    → HasOwnValue new.values slots shape kind
+    → ValuesKept old new → HasOwnValue old.values slots shape kind → HasOwnValue new.values slots shape kind
 own_kept old new slots (literal k spelling) kind kept is = value_kept old new _ kind kept is
 own_kept old new slots _ kind kept is = tt
 
 top_kept :
     (from to : ℕ) (old new : FlatTree) (schema : SchemaModel) (n : ℕ) (scope : Scope) (i j start stop : ℕ) (shape : Shape) (Before After : NodeKind → Type 0)
-    → IsKeptIn from to old new
-    → from ≤ i
-    → i < to
-    → ((kind : NodeKind) → Before kind → After kind)
-    → IsTop schema n scope old i j start stop shape Before
-    → IsTop schema n scope new i j start stop shape After
+    → IsKeptIn from to old new → from ≤ i → i < to → ((kind : NodeKind) → Before kind → After kind)
+    → IsTop schema n scope old i j start stop shape Before → IsTop schema n scope new i j start stop shape After
 top_kept from to old new schema n scope i j start stop shape Before After kept after before valued top = record {
   found = top.found;
   stands_at = kept.nodes i top.found after before top.stands_at;
@@ -63,10 +57,7 @@ top_kept from to old new schema n scope i j start stop shape Before After kept a
 
 number_kept :
     (from to : ℕ) (old new : FlatTree) (schema : SchemaModel) (n : ℕ) (scope : Scope) (number : ℤ) (i j : ℕ) (tree : Tree)
-    → IsKeptIn from to old new
-    → from ≤ i
-    → j ≤ to
-    → NumberStands schema n scope old number i j tree
+    → IsKeptIn from to old new → from ≤ i → j ≤ to → NumberStands schema n scope old number i j tree
     → NumberStands schema n scope new number i j tree
 number_kept from to old new schema n scope number i j (node start stop (literal LiteralKind.Str spelling)) kept after before stands =
     let last : i + 1 ≡ j = stands.children in
@@ -82,15 +73,13 @@ itself_kept from to list = record { nodes = λ k found after before at. at; valu
 
 top_lies :
     (schema : SchemaModel) (n : ℕ) (scope : Scope) (list : FlatTree) (i j start stop : ℕ) (shape : Shape) (Valued : NodeKind → Type 0)
-    → IsTop schema n scope list i j start stop shape Valued
-    → IsTop schema n scope list i j start stop shape OfAnyValue
+    → IsTop schema n scope list i j start stop shape Valued → IsTop schema n scope list i j start stop shape OfAnyValue
 top_lies schema n scope list i j start stop shape Valued top =
     top_kept i (i + 1) list list schema n scope i j start stop shape Valued OfAnyValue (itself_kept i (i + 1) list) (omega arith) (omega arith) (λ kind valued. tt) top
 
 number_lies :
     (schema : SchemaModel) (n : ℕ) (scope : Scope) (list : FlatTree) (number : ℤ) (i j : ℕ) (tree : Tree)
-    → NumberStands schema n scope list number i j tree
-    → Lies schema n scope list i j tree
+    → NumberStands schema n scope list number i j tree → Lies schema n scope list i j tree
 number_lies schema n scope list number i j (node start stop (literal LiteralKind.Str spelling)) stands =
     record { top = top_lies schema n scope list i j start stop (literal LiteralKind.Str spelling) _ stands.top; children = stands.children }
 number_lies schema n scope list number i j _ stands = absurd stands
@@ -115,9 +104,7 @@ record LineGoes (from to : ℕ) (lying later : List (ℕ → ℕ → Type 0)) (i
 
 line_goes :
     (from to : ℕ) (parts lying later : List (ℕ → ℕ → Type 0)) (i j : ℕ)
-    → AllGoOver from to parts lying later
-    → InLine parts i j
-    → LineGoes from to lying later i j
+    → AllGoOver from to parts lying later → InLine parts i j → LineGoes from to lying later i j
 line_goes from to [] [] [] i j all line = let e : i ≡ j = line in record { onward = omega arith; lies = line; stays = λ after before. line }
 line_goes from to (Before ∷ parts) (Lying ∷ lying) (After ∷ later) i j all line =
     let first = all.0.lies i line.middle line.left in
@@ -224,27 +211,20 @@ module _ (from to : ℕ) (old new : FlatTree) (kept : IsKeptIn from to old new) 
 
 pub stands_lie :
     (schema : SchemaModel) (n : ℕ) (scope : Scope) (list : FlatTree) (i j : ℕ) (tree : Tree)
-    → Stands schema n scope list i j tree
-    → Lies schema n scope list i j tree
+    → Stands schema n scope list i j tree → Lies schema n scope list i j tree
 stands_lie schema n scope list i j tree stands = let goes = tree_goes i j list list (itself_kept i j list) schema n scope tree in goes.lies i j stands
 
 -- between these indices all stands as it did
 pub stands_kept :
     (from to : ℕ) (old new : FlatTree) (schema : SchemaModel) (n : ℕ) (scope : Scope) (i j : ℕ) (tree : Tree)
-    → IsKeptIn from to old new
-    → from ≤ i
-    → j ≤ to
-    → Stands schema n scope old i j tree
+    → IsKeptIn from to old new → from ≤ i → j ≤ to → Stands schema n scope old i j tree
     → Stands schema n scope new i j tree
 stands_kept from to old new schema n scope i j tree kept after before stands =
     let goes = tree_goes from to old new kept schema n scope tree in goes.stays i j after before stands
 
 pub children_kept :
     (from to : ℕ) (old new : FlatTree) (schema : SchemaModel) (n : ℕ) (scope : Scope) (i j : ℕ) (shape : Shape)
-    → IsKeptIn from to old new
-    → from ≤ i
-    → j ≤ to
-    → ChildrenStand schema n scope old i j shape
+    → IsKeptIn from to old new → from ≤ i → j ≤ to → ChildrenStand schema n scope old i j shape
     → ChildrenStand schema n scope new i j shape
 children_kept from to old new schema n scope i j shape kept after before stand =
     let goes = line_goes from to (child_parts schema n scope old shape) (lying_parts schema n scope old shape) (child_parts schema n scope new shape) i j

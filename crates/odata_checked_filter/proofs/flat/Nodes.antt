@@ -77,8 +77,7 @@ module _ (slots : Slots) (root : List ℕ) where
     below_in scope (negation operand) k at part is = alone_in operand k part (node_in scope operand k at part is)
     below_in scope (logical_not operand) k at part is = alone_in operand k part (node_in scope operand k at part is)
     below_in scope (any_item base) k at part is = alone_in base k part (node_in scope base k at part is)
-    below_in scope (binary operator left right) k at part is =
-        two_in scope left right k at part (node_in scope left k at part) (λ j. node_in scope right j at part) is
+    below_in scope (binary operator left right) k at part is = two_in scope left right k at part (node_in scope left k at part) (λ j. node_in scope right j at part) is
     below_in scope (has left right) k at part is = two_in scope left right k at part (node_in scope left k at part) (λ j. node_in scope right j at part) is
     below_in scope (in_path left path) k at part is = two_in scope left path k at part (node_in scope left k at part) (λ j. node_in scope path j at part) is
     below_in scope (in_list left items) k at part is = more_in scope left items k at part (node_in scope left k at part) (λ j. among_in scope items j at part) is
@@ -137,30 +136,25 @@ module _ (one : OneType) (slots : Slots) (root : List ℕ) where
     node_one scope (node start stop shape) (suc k) at at' part part' a b = below_one scope shape k at at' part part' a b
 
     below_one : (scope : Scope) (shape : Shape) (k : ℕ) → OneAt (λ at part. IsNodeBelow slots root scope shape k at part)
-    below_one scope (member base asked) k at at' part part' a b = node_one scope base k at at' part part' a b
-    below_one scope (count base) k at at' part part' a b = node_one scope base k at at' part part' a b
-    below_one scope (negation operand) k at at' part part' a b = node_one scope operand k at at' part part' a b
-    below_one scope (logical_not operand) k at at' part part' a b = node_one scope operand k at at' part part' a b
-    below_one scope (any_item base) k at at' part part' a b = node_one scope base k at at' part part' a b
-    below_one scope (binary operator left right) k at at' part part' a b =
-        more_one scope left k (IsNode slots root scope right) (node_one scope left k) (node_one scope right) at at' part part' a b
-    below_one scope (has left right) k at at' part part' a b =
-        more_one scope left k (IsNode slots root scope right) (node_one scope left k) (node_one scope right) at at' part part' a b
-    below_one scope (in_path left path) k at at' part part' a b =
-        more_one scope left k (IsNode slots root scope path) (node_one scope left k) (node_one scope path) at at' part part' a b
-    below_one scope (in_list left items) k at at' part part' a b =
-        more_one scope left k (IsNodeAmong slots root scope items) (node_one scope left k) (among_one scope items) at at' part part' a b
-    below_one scope (call asked arguments) k at at' part part' a b = among_one scope arguments k at at' part part' a b
-    below_one scope (lambda quantifier base variable body) k at at' part part' a b =
+    below_one scope (member base asked) k = node_one scope base k
+    below_one scope (count base) k = node_one scope base k
+    below_one scope (negation operand) k = node_one scope operand k
+    below_one scope (logical_not operand) k = node_one scope operand k
+    below_one scope (any_item base) k = node_one scope base k
+    below_one scope (binary operator left right) k = more_one scope left k (IsNode slots root scope right) (node_one scope left k) (node_one scope right)
+    below_one scope (has left right) k = more_one scope left k (IsNode slots root scope right) (node_one scope left k) (node_one scope right)
+    below_one scope (in_path left path) k = more_one scope left k (IsNode slots root scope path) (node_one scope left k) (node_one scope path)
+    below_one scope (in_list left items) k = more_one scope left k (IsNodeAmong slots root scope items) (node_one scope left k) (among_one scope items)
+    below_one scope (call asked arguments) k = among_one scope arguments k
+    below_one scope (lambda quantifier base variable body) k =
         more_one scope base k (λ j s p. InBody scope variable (Typed slots root scope base) (λ inner. IsNode slots root inner body j s p)) (node_one scope base k)
         (λ j s s' p p' x y.
         let same : y.member_type ≡ x.member_type =
         same_member y.member_type x.member_type (one slots root scope base (collection y.member_type) (collection x.member_type) y.binds.over x.binds.over) in
         let P : SingleType → Type 0 = λ (m : SingleType). IsNode slots root (with_variable scope variable (single m)) body j s' p' in
-        node_one (with_variable scope variable (single x.member_type)) body j s s' p p' x.body (subst P same y.body)) at at' part part' a b
-    below_one scope _ k at at' part part' a b = absurd a
+        node_one (with_variable scope variable (single x.member_type)) body j s s' p p' x.body (subst P same y.body))
+    below_one scope _ k = λ at at' part part' a b. absurd a
 
     among_one : (scope : Scope) (trees : Trees) (k : ℕ) → OneAt (λ at part. IsNodeAmong slots root scope trees k at part)
-    among_one scope no_trees k at at' part part' a b = absurd a
-    among_one scope (more_trees tree trees) k at at' part part' a b =
-        more_one scope tree k (IsNodeAmong slots root scope trees) (node_one scope tree k) (among_one scope trees) at at' part part' a b
+    among_one scope no_trees k = λ at at' part part' a b. absurd a
+    among_one scope (more_trees tree trees) k = more_one scope tree k (IsNodeAmong slots root scope trees) (node_one scope tree k) (among_one scope trees)

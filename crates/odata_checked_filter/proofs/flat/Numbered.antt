@@ -47,8 +47,7 @@ no_slot _ property member_of = refl
 
 names_slot :
     (slots : Slots) (root : List ℕ) (scope : Scope) (start stop : ℕ) (shape : Shape) (kind : NodeKind) (slot : ℕ)
-    → HasForm slots root scope shape kind
-    → slot_of_kind kind ≡ Some slot
+    → HasForm slots root scope shape kind → slot_of_kind kind ≡ Some slot
     → NamesSlot slots root scope (node start stop shape) slot
 names_slot slots root scope start stop shape kind slot (property_form free named) found = (free, named ∙ found)
 names_slot slots root scope start stop shape kind slot (member_form owner typed named) found = (owner, typed, named ∙ found)
@@ -57,10 +56,8 @@ names_slot slots root scope start stop shape kind slot _ found = absurd (none-so
 -- a node whose kind has no slot names none
 slots_none :
     (slots : Slots) (root : List ℕ) (scope : Scope) (start stop : ℕ) (shape : Shape) (kind : NodeKind) (slot : ℕ)
-    → HasForm slots root scope shape kind
-    → slot_of_kind kind ≡ None
-    → NamesSlot slots root scope (node start stop shape) slot
-    → ⊥
+    → HasForm slots root scope shape kind → slot_of_kind kind ≡ None
+    → NamesSlot slots root scope (node start stop shape) slot → ⊥
 slots_none slots root scope start stop shape kind slot (property_form {slot = other} free named) none names = none-some other (sym none)
 slots_none slots root scope start stop shape kind slot (member_form {slot = other} owner typed named) none names = none-some other (sym none)
 slots_none slots root scope start stop shape kind slot (variable_form {asked = asked} {level = level} bound) none names =
@@ -88,10 +85,8 @@ span_same span start stop a b = rw (sym a, sym b) refl
 
 top_says :
     (filter : Filter) (scope : Scope) (k j : ℕ) (tree : Tree)
-    → (stands : Lies filter.schema filter.filtered scope filter.list k j tree)
-    → (found : CheckedNode)
-    → slice_get filter.list.nodes k ≡ Some found
-    → IsNodeOf filter found scope tree
+    → (stands : Lies filter.schema filter.filtered scope filter.list k j tree) → (found : CheckedNode)
+    → slice_get filter.list.nodes k ≡ Some found → IsNodeOf filter found scope tree
 top_says filter scope k j (node start stop shape) stands found here =
     let slots = slots_of filter.schema in
     let root = type_name_at filter.schema filter.filtered in
@@ -165,9 +160,6 @@ past_scoped filter k is past =
 
 pub type_at : (filter : Filter) (k : ℕ) (found : CheckedNode) → IsNumbered filter k found → IsTypeAt filter k (expr_type filter.schema found.edm_type)
 type_at filter k found is = record { at = is.scope; part = is.part; numbered = is.is_node; typed = is.says.typed }
-
-pub span_at : (filter : Filter) (k : ℕ) (found : CheckedNode) → IsNumbered filter k found → Some found.span ≡ option_map span_of_tree (slice_get (pre_order (tree_of_filter filter)) k)
-span_at filter k found is = ap Some is.says.span ∙ sym (ap (option_map span_of_tree) is.ordered)
 
 pub slot_at : (filter : Filter) (k slot : ℕ) (found : CheckedNode) → IsNumbered filter k found → slot_of_kind found.kind ≡ Some slot → IsSlotAt filter k slot
 slot_at filter k slot found is kind =

@@ -74,9 +74,7 @@ pub record IsWalkOperand (schema : SchemaModel) (n : ℕ) (list : FlatTree) (pla
 
 itself :
     (schema : SchemaModel) (n : ℕ) (scope : Scope) (list : FlatTree) (i j k : ℕ) (tree : Tree) (at : ScopedNode)
-    → Lies schema n scope list i j tree
-    → k ≡ i
-    → record { variables = variable_names scope; part = tree } ≡ at
+    → Lies schema n scope list i j tree → k ≡ i → record { variables = variable_names scope; part = tree } ≡ at
     → IsWalkOperand schema n list k (IsItself scope tree) at
 itself schema n scope list i j k tree at stands same is =
     let P : ℕ → Type 0 = λ (x : ℕ). IsWalkOperand schema n list x (IsItself scope tree) at in
@@ -86,24 +84,17 @@ itself schema n scope list i j k tree at stands same is =
 -- what holds more of it, where the index is given otherwise
 part_also :
     (schema : SchemaModel) (n : ℕ) (list : FlatTree) (place other : ℕ) (Node Also : Scope → Tree → Type 0) (at : ScopedNode)
-    → place ≡ other
-    → ((scope : Scope) (part : Tree) → Node scope part → Also scope part)
-    → IsWalkOperand schema n list place Node at
-    → IsWalkOperand schema n list other Also at
+    → place ≡ other → ((scope : Scope) (part : Tree) → Node scope part → Also scope part)
+    → IsWalkOperand schema n list place Node at → IsWalkOperand schema n list other Also at
 part_also schema n list place other Node Also at same also is =
     subst (λ (x : ℕ). IsWalkOperand schema n list x Also at) same
     (record { inner = is.inner; j = is.j; stands = is.stands; variables = is.variables; is_node = also is.inner at.part is.is_node })
-
-first_of : {X : Type 0} (x y : X) (xs : List X) → slice_get (x ∷ xs) 0 ≡ Some y → x ≡ y
-first_of x y xs found = cc
 
 -- of two parts, the second after the first, which has so many nodes
 in_either :
     (schema : SchemaModel) (n : ℕ) (list : FlatTree) (i m k size : ℕ) (xs ys : List ScopedNode) (at : ScopedNode)
     (First Second : ℕ → Scope → Tree → Type 0)
-    → length xs ≡ size
-    → m ≡ i + size
-    → slice_get (xs ++ ys) k ≡ Some at
+    → length xs ≡ size → m ≡ i + size → slice_get (xs ++ ys) k ≡ Some at
     → (slice_get xs k ≡ Some at → IsWalkOperand schema n list (i + k) (First k) at)
     → ((h : ℕ) → slice_get ys h ≡ Some at → IsWalkOperand schema n list (m + h) (Second h) at)
     → IsWalkOperand schema n list (i + k) (λ scope part. InEither size (λ j. First j scope part) (λ j. Second j scope part) k) at
@@ -135,8 +126,7 @@ module _ (schema : SchemaModel) (n : ℕ) (list : FlatTree) where
   -- a tree, and nodes after those of that
   after_tree :
       (scope : Scope) (i m k : ℕ) (tree : Tree) (behind : List ScopedNode) (at : ScopedNode) (Behind : ℕ → Scope → Tree → Type 0)
-      → Lies schema n scope list i m tree
-      → slice_get (scoped_nodes (variable_names scope) tree ++ behind) k ≡ Some at
+      → Lies schema n scope list i m tree → slice_get (scoped_nodes (variable_names scope) tree ++ behind) k ≡ Some at
       → (slice_get (scoped_nodes (variable_names scope) tree) k ≡ Some at → IsWalkOperand schema n list (i + k) (NodeOf scope tree k) at)
       → ((h : ℕ) → slice_get behind h ≡ Some at → IsWalkOperand schema n list (m + h) (Behind h) at)
       → IsWalkOperand schema n list (i + k) (λ s p. InEither (length (pre_order tree)) (λ h. NodeOf scope tree h s p) (λ h. Behind h s p) k) at
@@ -160,20 +150,18 @@ module _ (schema : SchemaModel) (n : ℕ) (list : FlatTree) where
   mutual
     pub part_stands :
         (scope : Scope) (i j : ℕ) (tree : Tree) (k : ℕ) (at : ScopedNode)
-        → Lies schema n scope list i j tree
-        → slice_get (scoped_nodes (variable_names scope) tree) k ≡ Some at
+        → Lies schema n scope list i j tree → slice_get (scoped_nodes (variable_names scope) tree) k ≡ Some at
         → IsWalkOperand schema n list (i + k) (NodeOf scope tree k) at
     part_stands scope i j (node start stop shape) zero at stands found =
         itself schema n scope list i j (i + 0) (node start stop shape) at stands (omega arith)
-        (first_of (record { variables = variable_names scope; part = node start stop shape }) at (scoped_below (variable_names scope) shape) found)
+        (cc found)
     part_stands scope i j (node start stop shape) (suc k) at stands found =
         part_also schema n list (i + 1 + k) (i + suc k) (BelowOf scope shape k) (NodeOf scope (node start stop shape) (suc k)) at (omega arith) (λ s p is. is)
         (part_below scope (i + 1) j shape k at stands.children found)
 
     part_below :
         (scope : Scope) (i j : ℕ) (shape : Shape) (k : ℕ) (at : ScopedNode)
-        → ChildrenLie schema n scope list i j shape
-        → slice_get (scoped_below (variable_names scope) shape) k ≡ Some at
+        → ChildrenLie schema n scope list i j shape → slice_get (scoped_below (variable_names scope) shape) k ≡ Some at
         → IsWalkOperand schema n list (i + k) (BelowOf scope shape k) at
     part_below scope i j (member base asked) k at stand found = part_stands scope i j base k at (one_there schema n scope list i j base stand) found
     part_below scope i j (count base) k at stand found = part_stands scope i j base k at (one_there schema n scope list i j base stand) found
@@ -204,8 +192,7 @@ module _ (schema : SchemaModel) (n : ℕ) (list : FlatTree) where
 
     part_among :
         (scope : Scope) (i j : ℕ) (trees : Trees) (k : ℕ) (at : ScopedNode)
-        → AllLie schema n scope list i j trees
-        → slice_get (scoped_among (variable_names scope) trees) k ≡ Some at
+        → AllLie schema n scope list i j trees → slice_get (scoped_among (variable_names scope) trees) k ≡ Some at
         → IsWalkOperand schema n list (i + k) (AmongOf scope trees k) at
     part_among scope i j no_trees k at stand found = absurd (none-some at found)
     part_among scope i j (more_trees tree trees) k at stand found =

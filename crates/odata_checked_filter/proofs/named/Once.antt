@@ -1,5 +1,5 @@
 -- Each text that is not seen stands once among those that are put after the seen ones, and no other does.
-use Rattle.std.proofs.Common.{◌≡◌, ◌≢◌, ◌↔◌, refl, sym, ap, ◌∙◌, subst, ℕ, List, [], ◌∷◌, ◌++◌, ◌||◌, ◌&&◌, Bool, not, true, false, cond, map, nat_eq, arith}
+use Rattle.std.proofs.Common.{◌≡◌, ◌≢◌, ◌↔◌, append_assoc, refl, sym, ap, ◌∙◌, subst, ℕ, List, [], ◌∷◌, ◌++◌, ◌||◌, ◌&&◌, Bool, not, true, false, cond, map, nat_eq, arith}
 use Rattle.std.specs.Cmp.Lexicographic.{pointwise}
 use Rattle.std.specs.List.{Contains, IsDistinct, list_any}
 use Rattle.std.proofs.lemmas.Bool.{false≢true}
@@ -11,7 +11,6 @@ use Rattle.std.proofs.lemmas.Map.Views.{Contains-from_any, list_any-from_Contain
 use Rattle.std.proofs.lemmas.Slice.Eq.{bytes_eq-Decides}
 use Rattle.odata_syntax.specs.Tree.{Tree}
 use Rattle.odata_checked_filter.specs.PropertyPaths.{node_paths, path_text, property_paths, unseen}
-use Rattle.odata_checked_filter.proofs.named.Texts.{append_append}
 
 same : (a b : List ℕ) → pointwise nat_eq a b ≡ true → a ≡ b
 same a b is = (bytes_eq-Decides a b).0 is
@@ -70,7 +69,7 @@ distinct_texts seen (text ∷ texts) are =
         → IsDistinct (pointwise nat_eq) (seen ++ cond b (unseen seen texts) (text ∷ unseen (seen ++ text ∷ []) texts))
     by true reported there put = there
     by false reported there put =
-        subst (IsDistinct (pointwise nat_eq)) (append_append seen (text ∷ []) (unseen (seen ++ text ∷ []) texts)) (put (IsDistinct-push nat_list_eq_equiv seen text are reported))
+        subst (IsDistinct (pointwise nat_eq)) (append_assoc seen (text ∷ []) (unseen (seen ++ text ∷ []) texts)) (put (IsDistinct-push nat_list_eq_equiv seen text are reported))
 
 pub paths_once : (tree : Tree) → IsDistinct (pointwise nat_eq) (property_paths tree)
 paths_once tree =

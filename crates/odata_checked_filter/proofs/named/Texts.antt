@@ -1,23 +1,14 @@
 -- Texts that are put after others, each once, and the texts of paths.
-use Rattle.std.proofs.Common.{◌≡◌, Bor, rules, refl, sym, ap, ◌∙◌, ℕ, List, [], ◌∷◌, ◌++◌, ◌||◌, Bool, true, false, cond, Some, length, map, nat_eq, suc, unwrap_or, eqb-true, eq-eqb, arith}
+use Rattle.std.proofs.Common.{◌≡◌, Bor, append_assoc, rules, refl, sym, ap, ◌∙◌, ℕ, List, [], ◌∷◌, ◌++◌, ◌||◌, Bool, true, false, cond, Some, length, map, nat_eq, suc, unwrap_or, eqb-true, eq-eqb, arith}
 use Rattle.std.specs.Cmp.Lexicographic.{pointwise}
 use Rattle.std.specs.List.{list_any}
 use Rattle.std.proofs.lemmas.Bool.{false≢true}
-use Rattle.std.proofs.lemmas.List.Sums.{fold_push}
-use Rattle.csdl_schema.specs.PathSet.{PropertyPath}
+use Rattle.std.proofs.lemmas.List.{append-nil}
 use Rattle.odata_signatures.specs.NeededPaths.{VariablePaths, variable_path}
 use Rattle.odata_signatures.specs.Typed.{Scope}
-use Rattle.odata_checked_filter.specs.PropertyPaths.{path_text, unseen, with_step}
+use Rattle.odata_checked_filter.specs.PropertyPaths.{path_text, unseen}
 use Rattle.odata_checked_filter.specs.private.PropertyPaths.{AreBound, NamedText, bound_in, text_named, with_texts}
 use Rattle.odata_checked_filter.specs.declared.property_paths.Variables.{Variables, Bound, Empty, the_lemmas}
-
-append_nil : {X : Type 0} (xs : List X) → xs ++ [] ≡ xs
-append_nil [] = refl
-append_nil (x ∷ xs) = ap (λ (ys : List _). x ∷ ys) (append_nil xs)
-
-pub append_append : {X : Type 0} (xs ys zs : List X) → (xs ++ ys) ++ zs ≡ xs ++ (ys ++ zs)
-append_append [] ys zs = refl
-append_append (x ∷ xs) ys zs = ap (λ (ws : List _). x ∷ ws) (append_append xs ys zs)
 
 pub any_map : {X Y : Type 0} (test : Y → Bool) (f : X → Y) (xs : List X) → list_any (λ x. test (f x)) xs ≡ list_any test (map f xs)
 any_map test f [] = refl
@@ -26,7 +17,7 @@ any_map test f (x ∷ xs) = ap (λ (b : Bool). test (f x) || b) (any_map test f 
 -- ---- texts that are not there yet
 
 unseen_both : (seen texts more : List (List ℕ)) → unseen seen (texts ++ more) ≡ unseen seen texts ++ unseen (seen ++ unseen seen texts) more
-unseen_both seen [] more = ap (λ (held : List (List ℕ)). unseen held more) (sym (append_nil seen))
+unseen_both seen [] more = ap (λ (held : List (List ℕ)). unseen held more) (sym (append-nil seen))
 unseen_both seen (text ∷ texts) more = by (list_any (pointwise nat_eq text) seen) (unseen_both seen texts more) (unseen_both (seen ++ text ∷ []) texts more)
   where
     by : (b : Bool) → unseen seen (texts ++ more) ≡ unseen seen texts ++ unseen (seen ++ unseen seen texts) more
@@ -39,20 +30,17 @@ unseen_both seen (text ∷ texts) more = by (list_any (pointwise nat_eq text) se
         ap (λ (rest : List (List ℕ)). text ∷ rest)
         (put
         ∙ ap (λ (held : List (List ℕ)). unseen (seen ++ text ∷ []) texts ++ unseen held more)
-        (append_append seen (text ∷ []) (unseen (seen ++ text ∷ []) texts)))
+        (append_assoc seen (text ∷ []) (unseen (seen ++ text ∷ []) texts)))
 
 -- texts put one part after the other
 pub put_both : (found texts more : List (List ℕ)) → with_texts (with_texts found texts) more ≡ with_texts found (texts ++ more)
 put_both found texts more =
-    append_append found (unseen ([] ∷ found) texts) (unseen ([] ∷ (found ++ unseen ([] ∷ found) texts)) more)
+    append_assoc found (unseen ([] ∷ found) texts) (unseen ([] ∷ (found ++ unseen ([] ∷ found) texts)) more)
     ∙ ap (λ (rest : List (List ℕ)). found ++ rest) (sym (unseen_both ([] ∷ found) texts more))
-
-pub put_none : (found : List (List ℕ)) → with_texts found [] ≡ found
-put_none found = append_nil found
 
 -- one text more
 pub put_seen : (found : List (List ℕ)) (text : List ℕ) → list_any (pointwise nat_eq text) ([] ∷ found) ≡ true → found ≡ with_texts found (text ∷ [])
-put_seen found text is = sym (ap (λ (b : Bool). found ++ cond b [] (text ∷ [])) is ∙ append_nil found)
+put_seen found text is = sym (ap (λ (b : Bool). found ++ cond b [] (text ∷ [])) is ∙ append-nil found)
 
 pub put_unseen : (found : List (List ℕ)) (text : List ℕ) → list_any (pointwise nat_eq text) ([] ∷ found) ≡ false → found ++ text ∷ [] ≡ with_texts found (text ∷ [])
 put_unseen found text is = sym (ap (λ (b : Bool). found ++ cond b [] (text ∷ [])) is)
@@ -76,9 +64,6 @@ not_seen found [] asked empty same reported some is = absurd (false≢true (sym 
 not_seen found (code ∷ codes) asked empty same reported some is = is
 
 -- ---- the texts of paths
-
-pub step_text : (path : PropertyPath) (asked : List ℕ) → path_text (path ++ asked ∷ []) ≡ with_step (path_text path) asked
-step_text path asked = fold_push with_step [] path asked
 
 -- a name's path, by the texts of the variables' paths
 pub name_text : (scope : Scope) (paths : VariablePaths) (bound : List NamedText) (asked : List ℕ) → AreBound scope paths bound

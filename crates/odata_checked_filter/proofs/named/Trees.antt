@@ -18,7 +18,6 @@ use Rattle.odata_checked_filter.specs.private.PropertyPaths.{texts_among, with_t
 use Rattle.odata_checked_filter.proofs.flat.Below.{children_line, line_behind}
 use Rattle.odata_checked_filter.proofs.flat.Children.{body_there}
 use Rattle.odata_checked_filter.proofs.flat.KindForms.{form_there}
-use Rattle.odata_checked_filter.proofs.flat.Places.{same_found}
 use Rattle.odata_checked_filter.proofs.flat.Standing.{between_onward, line_onward}
 use Rattle.odata_checked_filter.proofs.named.Texts.{put_both}
 use Rattle.odata_checked_filter.proofs.needed.Kinds.{other_there, property_there, step_there, variable_there, way_none}
@@ -78,14 +77,6 @@ pub first_of : (list : FlatTree) (place stop : ℕ) (trees : List Tree) → AreI
 first_of list place stop [] line before = absurd (omega (arith, line, before))
 first_of list place stop (tree ∷ more) line before = record { tree = tree; more = more; middle = line.middle; stands = line.left; after = line.right; is = refl }
 
-pub found_there : (list : FlatTree) (place stop : ℕ) (tree : Tree) → StandsBetween list place stop tree → (found : CheckedNode) × (slice_get list.nodes place ≡ Some found)
-found_there list place stop (node start end shape) between = (between.stands.top.found, between.stands.top.stands_at)
-
-pub last_there : (list : FlatTree) (place stop : ℕ) (tree : Tree) (found : CheckedNode) → StandsBetween list place stop tree → slice_get list.nodes place ≡ Some found → found.stop ≡ stop
-last_there list place stop (node start end shape) found between at =
-    let top = between.stands.top in
-    subst (λ (f : CheckedNode). f.stop ≡ stop) (same_found (slice_get list.nodes place) top.found found top.stands_at at) top.last
-
 -- whether it is a lambda operator
 lambda_there : (list : FlatTree) (place stop start end : ℕ) (shape : Shape) (found : CheckedNode) → StandsBetween list place stop (node start end shape) → slice_get list.nodes place ≡ Some found
     → is_lambda shape ≡ kind_is_lambda found.kind
@@ -117,10 +108,8 @@ pub record IsLeft
 -- past a node that is no lambda operator, with its text
 pub past_node :
     (list : FlatTree) (scope : Scope) (paths : VariablePaths) (old found new : List (List ℕ)) (place stop : ℕ) (trees : List Tree) (here : CheckedNode)
-    → (left : IsLeft list scope paths old found place stop trees)
-    → (first : IsFirst list place stop left.rest)
-    → slice_get list.nodes place ≡ Some here
-    → kind_is_lambda here.kind ≡ false
+    → (left : IsLeft list scope paths old found place stop trees) → (first : IsFirst list place stop left.rest)
+    → slice_get list.nodes place ≡ Some here → kind_is_lambda here.kind ≡ false
     → new ≡ with_texts found (path_text (path_of scope paths first.tree) ∷ [])
     → IsLeft list scope paths old new (place + 1) stop trees
 past_node list scope paths old found new place stop trees here left first at plain put =
@@ -195,14 +184,15 @@ lambda_of list place stop (node start end shape) found between at operator = by 
         }
     by _ between is = absurd (false≢true is)
 
-pub base_line : (list : FlatTree) (i j : ℕ) (tree : Tree) → StandsBetween list i j tree → AreInLine list i j (tree ∷ [])
-base_line list i j tree between = record { middle = j; left = between; right = refl }
+pub base_line : (list : FlatTree) (i j a b : ℕ) (tree : Tree) → a ≡ i → b ≡ j → StandsBetween list i j tree → AreInLine list a b (tree ∷ [])
+base_line list i j a b tree first last between =
+    subst (λ (x : ℕ). AreInLine list x b (tree ∷ [])) (sym first)
+    (subst (λ (y : ℕ). AreInLine list i y (tree ∷ [])) (sym last) (record { middle = j; left = between; right = refl }))
 
 -- past it, with its text and those of its base and its body
 pub past_lambda :
     (list : FlatTree) (scope : Scope) (paths : VariablePaths) (old found first_put base_put new : List (List ℕ)) (place stop : ℕ) (trees : List Tree)
-    → (left : IsLeft list scope paths old found place stop trees)
-    → (first : IsFirst list place stop left.rest)
+    → (left : IsLeft list scope paths old found place stop trees) → (first : IsFirst list place stop left.rest)
     → (operator : IsLambda list place first.middle first.tree)
     → first_put ≡ with_texts found (path_text (path_of scope paths first.tree) ∷ [])
     → base_put ≡ with_texts first_put (texts_among scope paths (operator.base ∷ []))

@@ -20,10 +20,6 @@ module _ (types : OneType) (slots : Slots) (root : List ℕ) (scope : Scope) (pa
   abbrev InnerNeeds : SingleType → PropertyPath → Type 0
   InnerNeeds member path = IsNeeded slots root (with_variable scope variable (single member)) (path_of scope paths base ∷ paths) body path
 
-  -- the variable stands for members of one type
-  one_member : (a b : SingleType) → BindsVariable scope variable Base a → BindsVariable scope variable Base b → a ≡ b
-  one_member a b first second = same_member a b (types slots root scope base (collection a) (collection b) first.over second.over)
-
   pub lambda_puts : (old mid way new : List StepModel) (member : SingleType) → BindsVariable scope variable Base member
       → Puts old mid (NeedsAmong slots root scope paths (base ∷ [])) → Puts mid way (NeedsOnWay slots root scope paths base)
       → Puts way new (NeedsAmong slots root (with_variable scope variable (single member)) (path_of scope paths base ∷ paths) (body ∷ []))
@@ -54,7 +50,7 @@ module _ (types : OneType) (slots : Slots) (root : List ℕ) (scope : Scope) (pa
           → (NeedsAmong slots root scope paths (base ∷ []) path ⊎ NeedsOnWay slots root scope paths base path)
           ⊎ NeedsAmong slots root (with_variable scope variable (single member)) (path_of scope paths base ∷ paths) (body ∷ []) path
       back path (inl need) = inl (inl (inl need))
-      back path (inr need) = inr (inl (subst (λ (m : SingleType). InnerNeeds m path) (one_member need.member_type member need.binds binds) need.body_needs))
+      back path (inr need) = inr (inl (subst (λ (m : SingleType). InnerNeeds m path) (same_member need.member_type member (types slots root scope base (collection need.member_type) (collection member) need.binds.over binds.over)) need.body_needs))
 
 -- of an empty set and one tree: what the tree needs, and nothing else
 pub only_needed : (slots : Slots) (root : List ℕ) (tree : Tree) (old new : List StepModel) → ((path : PropertyPath) → paths_in old path ≡ false) → Puts old new (NeedsAmong slots root [] [] (tree ∷ []))

@@ -12,7 +12,6 @@ use Rattle.odata_checked_filter.specs.declared.checked_node.NodeKind.{NodeKind}
 use Rattle.odata_checked_filter.specs.declared.needed_paths.NeedClass.{NeedClass}
 use Rattle.odata_checked_filter.specs.private.NeededPaths.{StandInLine, need_class}
 use Rattle.odata_checked_filter.proofs.flat.KindForms.{HasForm, form_there, lambda_form, member_form, property_form}
-use Rattle.odata_checked_filter.proofs.flat.Places.{same_found}
 
 module _ (schema : SchemaModel) (n : ℕ) (scope : Scope) (list : FlatTree) where
   -- ---- the head
@@ -29,10 +28,6 @@ module _ (schema : SchemaModel) (n : ℕ) (scope : Scope) (list : FlatTree) wher
   pub head_of : (place stop : ℕ) (trees : List Tree) → StandInLine schema n scope list place stop trees → place < stop → IsHead place stop trees
   head_of place stop [] line before = absurd (omega (arith, line, before))
   head_of place stop (tree ∷ more) line before = record { tree = tree; more = more; middle = line.0; stands = line.1; behind = line.2; is = refl }
-
-  pub last_there : (place stop : ℕ) (tree : Tree) (found : CheckedNode) → Lies schema n scope list place stop tree → slice_get list.nodes place ≡ Some found → found.stop ≡ stop
-  last_there place stop (node start end shape) found stands at =
-      subst (λ (f : CheckedNode). f.stop ≡ stop) (same_found (slice_get list.nodes place) stands.top.found found stands.top.stands_at at) stands.top.last
 
   -- ---- a lambda operator
 

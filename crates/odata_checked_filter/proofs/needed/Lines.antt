@@ -128,11 +128,9 @@ module _ (schema : SchemaModel) (n : ℕ) (scope : Scope) (list : FlatTree) (pat
 
   pub needs_by_children : (i j start stop : ℕ) (shape : Shape) (found : CheckedNode) → Lies schema n scope list i j (node start stop shape) → slice_get list.nodes i ≡ Some found
       → need_class found.kind ≡ NeedClass.Children → NeedsByChildren schema n scope list paths i j (node start stop shape)
-  needs_by_children i j start stop shape found stands at class = by shape stands (subst (λ (f : CheckedNode). need_class f.kind ≡ NeedClass.Children) (sym same) class)
+  needs_by_children i j start stop shape found stands at class =
+      by shape stands (subst (λ (f : CheckedNode). need_class f.kind ≡ NeedClass.Children) (sym (same_found (slice_get list.nodes i) stands.top.found found stands.top.stands_at at)) class)
     where
-      same : stands.top.found ≡ found
-      same = same_found (slice_get list.nodes i) stands.top.found found stands.top.stands_at at
-
       by : (shape : Shape) (stands : Lies schema n scope list i j (node start stop shape)) → need_class stands.top.found.kind ≡ NeedClass.Children
           → NeedsByChildren schema n scope list paths i j (node start stop shape)
       by (literal kind spelling) stands class = record { children = []; line = stands.children; forth = λ path need. need; back = λ path need. need }

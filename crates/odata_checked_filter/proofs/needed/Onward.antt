@@ -9,11 +9,13 @@ use Rattle.odata_signatures.specs.Typed.{Scope}
 use Rattle.odata_checked_filter.specs.FlatTree.{FlatTree}
 use Rattle.odata_checked_filter.specs.private.Layout.{Lies}
 use Rattle.odata_checked_filter.specs.declared.checked_node.CheckedNode.{CheckedNode}
+use Rattle.odata_checked_filter.specs.declared.needed_paths.ListContext.{ListContext}
 use Rattle.odata_checked_filter.specs.declared.needed_paths.NeedClass.{NeedClass}
-use Rattle.odata_checked_filter.specs.private.NeededPaths.{LambdaNeeds, NeedsAmong, NeedsOnWay, Puts, StandInLine, base_of, need_class, steps_of}
-use Rattle.odata_checked_filter.proofs.needed.Heads.{IsHead, IsLambdaTree, IsWay, head_of, last_there}
+use Rattle.odata_checked_filter.specs.private.NeededPaths.{AreTreesThere, IsTreeThere, LambdaNeeds, NeedsAmong, NeedsOnWay, Puts, StandInLine, base_of, need_class, steps_of}
+use Rattle.odata_checked_filter.proofs.flat.Standing.{lies_last}
+use Rattle.odata_checked_filter.proofs.needed.Heads.{IsHead, IsLambdaTree, IsWay, head_of}
 use Rattle.odata_checked_filter.proofs.needed.Lines.{IsLeft, left_on, line_front, needs_by_children, one_line}
-use Rattle.odata_checked_filter.proofs.needed.Sets.{puts_nothing}
+use Rattle.odata_checked_filter.proofs.needed.Sets.{lead_still, puts_nothing}
 use Rattle.odata_checked_filter.proofs.needed.Ways.{base_needed, base_stands, needs_way, way_needed}
 
 module _ (schema : SchemaModel) (n : ℕ) (scope : Scope) (list : FlatTree) (paths : VariablePaths) (old : List StepModel) (stop : ℕ) (trees : List Tree) where
@@ -42,7 +44,7 @@ module _ (schema : SchemaModel) (n : ℕ) (scope : Scope) (list : FlatTree) (pat
       (sym operator.is) (λ path need. inl need) in
       let parts = subst (λ (t : Tree). (path : PropertyPath) → LambdaNeeds (slots_of schema) (type_name_at schema n) scope paths operator.base operator.variable operator.body path ⊎ Among [] path → Need t path)
       (sym operator.is) (λ path either. elim either [ inl need ↦ need | inr none ↦ absurd none ]) in
-      let line = subst (λ (k : ℕ). StandInLine schema n scope list k stop first.more) (sym (last_there schema n scope list place first.middle first.tree found first.stands at)) first.behind in
+      let line = subst (λ (k : ℕ). StandInLine schema n scope list k stop first.more) (sym (lies_last schema n scope list place first.middle first.tree found first.stands at)) first.behind in
       left_on schema n scope list paths old stop trees now next place found.stop left first.tree first.more []
       (LambdaNeeds (slots_of schema) (type_name_at schema n) scope paths operator.base operator.variable operator.body) first.is puts whole parts line
 
@@ -101,3 +103,12 @@ module _ (schema : SchemaModel) (n : ℕ) (scope : Scope) (list : FlatTree) (pat
           (λ path need. inr (below.forth path need))
           (λ path either. elim either [ inl none ↦ absurd none | inr need ↦ below.back path need ])
           (line_front schema n scope list (place + 1) first.middle stop below.children first.more below.line first.behind)
+
+-- the tree at the current node, in a scope that is known to be there
+pub tree_now : (context : ListContext) (old now : List StepModel) (nodes : List ℕ) (from place stop : ℕ) (there : AreTreesThere context old nodes from stop)
+    → IsLeft context.schema.now context.filtered_type there.scope context.list.now there.paths old now place stop there.trees → place < stop
+    → IsTreeThere context now nodes place
+tree_now context old now nodes from place stop there left before =
+    let first = head_of context.schema.now context.filtered_type there.scope context.list.now place stop left.rest left.line before in
+    let lead = lead_still old now there.scope there.paths nodes left.leads there.lead in
+    record { scope = there.scope; paths = there.paths; stop = first.middle; tree = first.tree; stands = first.stands; lead = lead }

@@ -64,8 +64,7 @@ module _ (schema : SchemaModel) (n : ℕ) (scope : Scope) (list : FlatTree) (pat
   -- a step more
   pub step_end : (types : OneType) (mid new : List StepModel) (place stop slot id after : ℕ) (tree : Tree) (before : PathEnd) (target : Option ℕ)
       → (there : IsStepThere schema n scope list place stop slot tree) → there.owner ≡ type_name_at schema id
-      → IsTargetAt schema id slot target
-      → End mid (place + 1) there.base before
+      → IsTargetAt schema id slot target → End mid (place + 1) there.base before
       → LeadsTo new (path_of scope paths there.base ++ there.asked ∷ []) after
       → Puts mid new (λ put. IsSome target × (put ≡ path_of scope paths there.base ++ there.asked ∷ []))
       → End new place tree (record { node = after; base = before.base })

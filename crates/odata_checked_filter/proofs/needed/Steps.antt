@@ -33,16 +33,13 @@ no_navigation : (one : SingleType) (many : Bool) (target : ExprType) → type_of
 no_navigation one true target is = cc
 no_navigation one false target is = cc
 
-no_target : (target : Option ℕ) → target ≡ None → IsSome target → ⊥
-no_target target none some = false≢true (subst IsSome none some)
-
 -- a kind with a target navigates to that, and none without one
 kind_leads : (schema : SchemaModel) (of : PropertyKind) (target : Option ℕ) (many : Bool) → LeadsWithin schema of target → IsSome target
     → (t : ExprType) × (type_of_kind (type_name_at schema) of target many ≡ navigation (Some t))
 kind_leads schema kind.Navigation None many leads some = absurd (false≢true some)
 kind_leads schema kind.Navigation (Some id) true leads some = (collection (structured (type_name_at schema id)), refl)
 kind_leads schema kind.Navigation (Some id) false leads some = (single (structured (type_name_at schema id)), refl)
-kind_leads schema _ target many leads some = absurd (no_target target leads some)
+kind_leads schema _ target many leads some = absurd (false≢true (subst IsSome leads some))
 
 leads_kind : (schema : SchemaModel) (of : PropertyKind) (target : Option ℕ) (many : Bool) (t : ExprType)
     → type_of_kind (type_name_at schema) of target many ≡ navigation (Some t) → IsSome target

@@ -39,7 +39,7 @@ deepest_among : (trees : Trees) → lambda_depth_among trees ≡ deepest_of (lis
 deepest_among no_trees = refl
 deepest_among (more_trees tree trees) = ap (λ (n : ℕ). max (lambda_depth tree) n) (deepest_among trees)
 
-one_deepest : (tree : Tree) → lambda_depth tree ≡ deepest_of (tree ∷ [])
+pub one_deepest : (tree : Tree) → lambda_depth tree ≡ deepest_of (tree ∷ [])
 one_deepest tree = omega arith
 
 two_deepest : (left right : Tree) → max (lambda_depth left) (lambda_depth right) ≡ deepest_of (left ∷ right ∷ [])
@@ -71,9 +71,7 @@ pub record IsFirstOf (list : FlatTree) (i j : ℕ) (found : CheckedNode) (trees 
 
 first_tree :
     (list : FlatTree) (i m j : ℕ) (found : CheckedNode) (tree : Tree) (trees : List Tree)
-    → StandsBetween list i m tree
-    → AreInLine list m j trees
-    → slice_get list.nodes i ≡ Some found
+    → StandsBetween list i m tree → AreInLine list m j trees → slice_get list.nodes i ≡ Some found
     → IsFirstOf list i j found (tree ∷ trees)
 first_tree list i m j found (node start stop shape) trees first behind at =
     let top = first.stands.top in
@@ -97,17 +95,9 @@ first_tree list i m j found (node start stop shape) trees first behind at =
 
 pub first_of :
     (list : FlatTree) (i j : ℕ) (found : CheckedNode) (trees : List Tree)
-    → AreInLine list i j trees
-    → i < j
-    → slice_get list.nodes i ≡ Some found
-    → IsFirstOf list i j found trees
+    → AreInLine list i j trees → i < j → slice_get list.nodes i ≡ Some found → IsFirstOf list i j found trees
 first_of list i j found [] line before at = absurd (omega (arith, line, before))
 first_of list i j found (tree ∷ trees) line before at = first_tree list i line.middle j found tree trees line.left line.right at
-
--- the node at a line's first index is in the list
-pub first_within : (list : FlatTree) (i j : ℕ) (trees : List Tree) → AreInLine list i j trees → i < j → (found : CheckedNode) × (slice_get list.nodes i ≡ Some found)
-first_within list i j [] line before = absurd (omega (arith, line, before))
-first_within list i j (node start stop shape ∷ trees) line before = (line.left.stands.top.found, line.left.stands.top.stands_at)
 
 -- ---- the greater of two numbers
 
@@ -137,11 +127,8 @@ pub record IsRemaining (list : FlatTree) (place stop so_far whole : ℕ) : Type 
 -- past a node that is no lambda operator
 pub rest_below :
     (list : FlatTree) (place stop depth whole : ℕ) (found : CheckedNode)
-    → IsRemaining list place stop depth whole
-    → place < stop
-    → slice_get list.nodes place ≡ Some found
-    → kind_is_lambda found.kind ≡ false
-    → IsRemaining list (place + 1) stop depth whole
+    → IsRemaining list place stop depth whole → place < stop → slice_get list.nodes place ≡ Some found
+    → kind_is_lambda found.kind ≡ false → IsRemaining list (place + 1) stop depth whole
 rest_below list place stop depth whole found rest before at plain =
     let first = first_of list place stop found rest.trees rest.line before at in
     let deep : deepest_of rest.trees ≡ max (deepest_of first.below) (deepest_of first.behind) =
@@ -158,9 +145,7 @@ rest_below list place stop depth whole found rest before at plain =
 -- past a lambda operator, with what stands in it
 pub rest_behind :
     (list : FlatTree) (place stop depth whole inside : ℕ) (found : CheckedNode)
-    → IsRemaining list place stop depth whole
-    → place < stop
-    → slice_get list.nodes place ≡ Some found
+    → IsRemaining list place stop depth whole → place < stop → slice_get list.nodes place ≡ Some found
     → kind_is_lambda found.kind ≡ true
     → ((trees : List Tree) → AreInLine list (place + 1) found.stop trees → inside ≡ deepest_of trees)
     → IsRemaining list found.stop stop (max depth (inside + 1)) whole
@@ -190,15 +175,10 @@ rest_none list place stop depth whole rest past =
 
 pub whole_line :
     (filter : Filter) (list : FlatTree) (nodes : List CheckedNode)
-    → IsFilter filter
-    → list ≡ filter.list
-    → nodes ≡ list.nodes
+    → IsFilter filter → list ≡ filter.list → nodes ≡ list.nodes
     → AreInLine list 0 (length nodes) (tree_of_filter filter ∷ [])
 whole_line filter list nodes is same beside =
     let trees = tree_of_filter filter ∷ [] in
     subst (λ (ns : List CheckedNode). AreInLine list 0 (length ns) trees) (sym beside)
     (subst (λ (l : FlatTree). AreInLine l 0 (length l.nodes) trees) (sym same)
     (one_line filter.schema filter.filtered filter.list [] 0 (length filter.list.nodes) (tree_of_filter filter) (filter_lies filter is)))
-
-pub whole_depth : (filter : Filter) → deepest_of (tree_of_filter filter ∷ []) ≡ lambda_depth (tree_of_filter filter)
-whole_depth filter = sym (one_deepest (tree_of_filter filter))

@@ -2,6 +2,7 @@
 use Rattle.std.proofs.Common.{◌≡◌, ◌↔◌, ◌∙◌, refl, sym, ap, subst, ℕ, zero, suc, ◌<◌, List, [], ◌∷◌, ◌++◌, Bool, true, false, Some, length, slice_get, arith}
 use Rattle.std.specs.Prelude.{◌||◌, Contains, codes, slice_index_or}
 use Rattle.std.specs.List.{flat_map, list_any}
+use Rattle.std.proofs.lemmas.Bool.{false≢true}
 use Rattle.std.proofs.lemmas.Option.{none-some, slice_get_within}
 use Rattle.odata_syntax.specs.Spans.{IsWithin, children_of, in_child, is_root}
 use Rattle.odata_syntax.specs.Tree.{Shape, Tree, Trees, call, node, shape_of}
@@ -135,9 +136,6 @@ named_maker distinct function asked named (suc zero, within, is) = ap function_m
 named_maker distinct function asked named (suc (suc zero), within, is) = ap function_makes_text (distinct function Function.ToUpper asked named is)
 named_maker distinct function asked named (suc (suc (suc k)), within, is) = let h : suc (suc (suc k)) < 3 = within in absurd (omega arith)
 
-no_maker : (b : Bool) → b ≡ false → b ≡ true → ⊥
-no_maker b fails passes = cc
-
 maker_sound :
     (slots : Slots) (root : List ℕ) (scope : Scope) (shape : Shape) (kind : NodeKind)
     → HasForm slots root scope shape kind → kind_makes_text kind ≡ true
@@ -152,7 +150,7 @@ maker_complete : AreDistinct →
     → kind_makes_text kind ≡ true
 maker_complete distinct slots root scope called arguments (NodeKind.Call function) is one = named_maker distinct function called is.0 one
 maker_complete distinct slots root scope called arguments NodeKind.Now is one =
-    absurd (no_maker (function_makes_text Function.Now) refl (named_maker distinct Function.Now called is one))
+    absurd (false≢true (named_maker distinct Function.Now called is one))
 maker_complete distinct slots root scope called arguments _ is one = absurd is
 
 now_sound :

@@ -160,11 +160,6 @@ module _ (slots : Slots) (root : List ℕ) where
         record { at = there.at; part = there.part; numbered = there.numbered; typed = there.typed },
   )
 
-  -- the shape is that
-  at_shape : (scope : Scope) (shape known other : Shape) (k : ℕ) (type : ExprType) → other ≡ known
-      → BelowTyped scope shape k type ↔ BelowTyped scope known k type → BelowTyped scope shape k type ↔ BelowTyped scope other k type
-  at_shape scope shape known other k type is same = subst (λ (s : Shape). BelowTyped scope shape k type ↔ BelowTyped scope s k type) (sym is) same
-
   module _ (kept : KeptTypes) where
     -- ---- normal forms
 
@@ -174,47 +169,35 @@ module _ (slots : Slots) (root : List ℕ) where
     mutual
       pub nodes_normal : (scope : Scope) (tree normal : Tree) (k : ℕ) (type : ExprType) → IsNormalForm tree normal → NodeTyped scope tree k type ↔ NodeTyped scope normal k type
       nodes_normal scope (node start stop shape) normal k type is =
-          subst (λ (n : Tree). NodeTyped scope (node start stop shape) k type ↔ NodeTyped scope n k type) (sym is.2)
-          (node_same scope start stop start stop shape is.0 (λ t. kept.types slots root scope (node start stop shape) (node start stop is.0) t (is.0, is.1, refl)) k type
+          rw is.2 (node_same scope start stop start stop shape is.0 (λ t. kept.types slots root scope (node start stop shape) (node start stop is.0) t (is.0, is.1, refl)) k type
           (λ j. below_normal scope shape is.0 j type is.1))
 
       below_normal : (scope : Scope) (shape other : Shape) (k : ℕ) (type : ExprType) → IsNormalShape shape other → BelowTyped scope shape k type ↔ BelowTyped scope other k type
-      below_normal scope (literal kind text) other k type is = at_shape scope (literal kind text) (literal kind is.0) other k type is.2 (itself (BelowTyped scope (literal kind text) k type))
-      below_normal scope it other k type is = at_shape scope it it other k type is (itself (BelowTyped scope it k type))
-      below_normal scope (name asked) other k type is = at_shape scope (name asked) (name asked) other k type is (itself (BelowTyped scope (name asked) k type))
-      below_normal scope (member base asked) other k type is =
-          at_shape scope (member base asked) (member is.0 asked) other k type is.2 (nodes_normal scope base is.0 k type is.1)
-      below_normal scope (count base) other k type is = at_shape scope (count base) (count is.0) other k type is.2 (nodes_normal scope base is.0 k type is.1)
-      below_normal scope (negation operand) other k type is =
-          at_shape scope (negation operand) (negation is.0) other k type is.2 (nodes_normal scope operand is.0 k type is.1)
-      below_normal scope (logical_not operand) other k type is =
-          at_shape scope (logical_not operand) (logical_not is.0) other k type is.2 (nodes_normal scope operand is.0 k type is.1)
+      below_normal scope (literal kind text) other k type is = rw is.2 (itself (BelowTyped scope (literal kind text) k type))
+      below_normal scope it other k type is = rw is (itself (BelowTyped scope it k type))
+      below_normal scope (name asked) other k type is = rw is (itself (BelowTyped scope (name asked) k type))
+      below_normal scope (member base asked) other k type is = rw is.2 (nodes_normal scope base is.0 k type is.1)
+      below_normal scope (count base) other k type is = rw is.2 (nodes_normal scope base is.0 k type is.1)
+      below_normal scope (negation operand) other k type is = rw is.2 (nodes_normal scope operand is.0 k type is.1)
+      below_normal scope (logical_not operand) other k type is = rw is.2 (nodes_normal scope operand is.0 k type is.1)
       below_normal scope (binary operator left right) other k type is =
-          at_shape scope (binary operator left right) (binary operator is.0 is.1) other k type is.4
-          (two_same scope left right is.0 is.1 k type (size_normal left is.0 is.2) (λ j. nodes_normal scope left is.0 j type is.2) (λ j. nodes_normal scope right is.1 j type is.3))
+          rw is.4 (two_same scope left right is.0 is.1 k type (size_normal left is.0 is.2) (λ j. nodes_normal scope left is.0 j type is.2) (λ j. nodes_normal scope right is.1 j type is.3))
       below_normal scope (has left right) other k type is =
-          at_shape scope (has left right) (has is.0 is.1) other k type is.4
-          (two_same scope left right is.0 is.1 k type (size_normal left is.0 is.2) (λ j. nodes_normal scope left is.0 j type is.2) (λ j. nodes_normal scope right is.1 j type is.3))
+          rw is.4 (two_same scope left right is.0 is.1 k type (size_normal left is.0 is.2) (λ j. nodes_normal scope left is.0 j type is.2) (λ j. nodes_normal scope right is.1 j type is.3))
       below_normal scope (in_list left items) other k type is =
-          at_shape scope (in_list left items) (in_list is.0 is.1) other k type is.4
-          (more_same scope left is.0 items is.1 k type (size_normal left is.0 is.2) (λ j. nodes_normal scope left is.0 j type is.2) (λ j. among_normal scope items is.1 j type is.3))
+          rw is.4 (more_same scope left is.0 items is.1 k type (size_normal left is.0 is.2) (λ j. nodes_normal scope left is.0 j type is.2) (λ j. among_normal scope items is.1 j type is.3))
       below_normal scope (in_path left path) other k type is =
-          at_shape scope (in_path left path) (in_path is.0 is.1) other k type is.4
-          (two_same scope left path is.0 is.1 k type (size_normal left is.0 is.2) (λ j. nodes_normal scope left is.0 j type is.2) (λ j. nodes_normal scope path is.1 j type is.3))
-      below_normal scope (call asked arguments) other k type is =
-          at_shape scope (call asked arguments) (call asked is.0) other k type is.2 (among_normal scope arguments is.0 k type is.1)
-      below_normal scope (any_item base) other k type is = at_shape scope (any_item base) (any_item is.0) other k type is.2 (nodes_normal scope base is.0 k type is.1)
+          rw is.4 (two_same scope left path is.0 is.1 k type (size_normal left is.0 is.2) (λ j. nodes_normal scope left is.0 j type is.2) (λ j. nodes_normal scope path is.1 j type is.3))
+      below_normal scope (call asked arguments) other k type is = rw is.2 (among_normal scope arguments is.0 k type is.1)
+      below_normal scope (any_item base) other k type is = rw is.2 (nodes_normal scope base is.0 k type is.1)
       below_normal scope (lambda quantifier base variable body) other k type is =
-          at_shape scope (lambda quantifier base variable body) (lambda quantifier is.0 variable is.1) other k type is.4
-          (lambda_same scope variable base is.0 body is.1 k type (size_normal base is.0 is.2) (λ t. kept.types slots root scope base is.0 t is.2)
+          rw is.4 (lambda_same scope variable base is.0 body is.1 k type (size_normal base is.0 is.2) (λ t. kept.types slots root scope base is.0 t is.2)
           (λ j. nodes_normal scope base is.0 j type is.2) (λ at j. nodes_normal at body is.1 j type is.3))
 
       among_normal : (scope : Scope) (trees normals : Trees) (k : ℕ) (type : ExprType) → AreNormalForms trees normals → AmongTyped scope trees k type ↔ AmongTyped scope normals k type
-      among_normal scope no_trees normals k type are =
-          subst (λ (ts : Trees). AmongTyped scope no_trees k type ↔ AmongTyped scope ts k type) (sym are) (itself (AmongTyped scope no_trees k type))
+      among_normal scope no_trees normals k type are = rw are (itself (AmongTyped scope no_trees k type))
       among_normal scope (more_trees tree trees) normals k type are =
-          subst (λ (ts : Trees). AmongTyped scope (more_trees tree trees) k type ↔ AmongTyped scope ts k type) (sym are.4)
-          (more_same scope tree are.0 trees are.1 k type (size_normal tree are.0 are.2) (λ j. nodes_normal scope tree are.0 j type are.2) (λ j. among_normal scope trees are.1 j type are.3))
+          rw are.4 (more_same scope tree are.0 trees are.1 k type (size_normal tree are.0 are.2) (λ j. nodes_normal scope tree are.0 j type are.2) (λ j. among_normal scope trees are.1 j type are.3))
 
     -- ---- without places
 

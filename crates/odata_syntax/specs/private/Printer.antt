@@ -1,14 +1,28 @@
 -- What the printer still has to write. For private clauses.
-use Rattle.std.specs.Prelude.{◌≡◌, ℕ, zero, suc, ◌+◌, ◌<◌, List, [], ◌∷◌, ◌++◌, codes, sum_by}
+use Rattle.std.specs.Prelude.{◌≡◌, ℕ, zero, suc, ◌+◌, ◌<◌, List, [], ◌∷◌, ◌++◌, IfNone, Option, codes, sum_by}
+use Rattle.std.specs.List.{AllByRecursion}
+use Rattle.std.specs.Option.{option_to_list}
 use Rattle.odata_syntax.specs.CanonicalText.{further_text, grouped, tree_level, tree_text, trees_text}
-use Rattle.odata_syntax.specs.Grammar.{Level, base_level, operator_level, path_level}
+use Rattle.odata_syntax.specs.Grammar.{Level, base_level, operator_level, path_level, primary_level, unary_level}
 use Rattle.odata_syntax.specs.Lexeme.{operator_word, quantifier_word}
 use Rattle.odata_syntax.specs.NormalForm.{AreNormalForms, IsNormalForm}
-use Rattle.odata_syntax.specs.Tree.{Shape, Tree, Trees, any_item, binary, count, has, in_list, in_path, lambda, member, more_trees, no_trees, shape_of}
-use Rattle.odata_syntax.specs.TreeView.{tree_of, trees_of}
+use Rattle.odata_syntax.specs.PrintedTree.{PrintedTrees}
+use Rattle.odata_syntax.specs.Tree.{Shape, Tree, Trees, any_item, binary, count, has, in_list, in_path, it, lambda, member, more_trees, no_trees, node, shape_of}
 use Rattle.odata_syntax.specs.private.Weights.{tree_weight, trees_weight}
 use Rattle.odata_syntax.specs.declared.printer.PrintTask.{PrintTask}
 use Rattle.odata_syntax.specs.declared.printer.PrintTask.TheVariants.{Close, Further, Joint, Operand}
+use Rattle.odata_syntax.specs.declared.printer.printed_tree.AfterFirst.{AfterFirst}
+use Rattle.odata_syntax.specs.declared.printer.printed_tree.NodeShape.{NodeShape}
+
+-- nodes without their trees
+abbrev pub no_nodes : {N I : Type 0} → PrintedTrees N I
+no_nodes =
+    record {
+      tree_of = λ there. node 0 0 it;
+      trees_of = λ those. no_trees;
+      HasTree = λ there. Unit {0};
+      HaveTrees = λ those. Unit {0};
+    }
 
 -- what is still to be written: some text as it is, further items each after a comma, an operand whose position needs a
 -- level, and what a form has after its first operand
@@ -34,7 +48,11 @@ pub record AreTextsOf (text_of : Trees → List ℕ) (trees : Trees) (text : Lis
 abbrev pub operand_text : Level → Tree → List ℕ
 operand_text needed tree = grouped needed (tree_level tree) (tree_text tree)
 
--- a word between spaces (32), and the operand after it
+-- a word between spaces (32)
+abbrev pub spaced : List ℕ → List ℕ
+spaced word = 32 ∷ (word ++ 32 ∷ [])
+
+-- the same, and the operand after it
 abbrev pub right_text : List ℕ → Level → Tree → List ℕ
 right_text word needed tree = 32 ∷ (word ++ (32 ∷ operand_text needed tree))
 
@@ -75,12 +93,45 @@ abbrev pub ArePieceTexts : List Piece → List ℕ → Type 0
 ArePieceTexts [] text = text ≡ []
 ArePieceTexts (piece ∷ pieces) text = IsFrontOf (λ front. ArePieceTexts pieces front) (IsPieceText piece) text
 
--- what a part of the code stands for
-abbrev pub piece_of : PrintTask → Piece
-piece_of (Operand there needed) = operand needed (tree_of there.now)
-piece_of (Joint there) = after_first (shape_of (tree_of there.now))
-piece_of (Further those) = further (trees_of those.now)
-piece_of Close = plain (41 ∷ [])
+-- what a task stands for
+abbrev pub piece_of : {N I : Type 0} → PrintedTrees N I → PrintTask N I → Piece
+piece_of trees (Operand there needed) = operand needed (trees.tree_of there)
+piece_of trees (Joint there) = after_first (shape_of (trees.tree_of there))
+piece_of trees (Further those) = further (trees.trees_of those)
+piece_of trees Close = plain (41 ∷ [])
+
+-- the node or the items of a task have trees
+abbrev pub HasTrees : {N I : Type 0} → PrintedTrees N I → PrintTask N I → Type 0
+HasTrees trees (Operand there needed) = trees.HasTree there
+HasTrees trees (Joint there) = trees.HasTree there
+HasTrees trees (Further those) = trees.HaveTrees those
+HasTrees trees Close = Unit {0}
+
+abbrev pub AllHaveTrees : {N I : Type 0} → PrintedTrees N I → List (PrintTask N I) → Type 0
+AllHaveTrees trees tasks = AllByRecursion (HasTrees trees) tasks
+
+-- the tasks on the stack, and above them the one that is next, if there is one
+abbrev pub waiting : {X : Type 0} → List X → Option X → List X
+waiting tasks next = tasks ++ option_to_list next
+
+-- all of them have trees; where none is next, none is left
+pub record IsReady {N I : Type 0} (trees : PrintedTrees N I) (tasks : List (PrintTask N I)) (next : Option (PrintTask N I)) : Type 0 where
+  pub have : AllHaveTrees trees (waiting tasks next)
+  pub none : IfNone next (tasks ≡ [])
+
+-- the level that the first operand of a node needs
+abbrev pub rest_needs : {N I : Type 0} → AfterFirst N I → Level
+rest_needs (AfterFirst.Binary operator right) = operator_level operator
+rest_needs (AfterFirst.Has right) = primary_level
+rest_needs (AfterFirst.InList items) = primary_level
+rest_needs (AfterFirst.InPath path) = primary_level
+rest_needs _ = 0
+
+abbrev pub first_needs : {N I : Type 0} → NodeShape N I → Level
+first_needs (NodeShape.Neg there) = unary_level
+first_needs (NodeShape.Not there) = unary_level
+first_needs (NodeShape.Joined first rest) = rest_needs rest
+first_needs _ = 0
 
 -- items on the stack, the first one last
 abbrev pub listed : Trees → List Piece

@@ -1,5 +1,5 @@
 use Rattle.std.proofs.Common.{◌∙◌, List, ℕ, ◌++◌, ap, codes, string_bytes}
-use Rattle.odata_checked_filter.proofs.canonical.Leaves.{on_ok, pushed_ok}
+use Rattle.odata_checked_filter.proofs.printed.Results.{on_ok, pushed_ok}
 use Rattle.odata_checked_filter.proofs.explained.Lines.{collection_joined}
 use Rattle.odata_checked_filter.proofs.explanation.push_collection.Goals as goal
 

@@ -3,7 +3,7 @@ use Rattle.std.specs.Prelude.{replicate}
 use Rattle.odata_checked_filter.specs.Explanation.{span_text}
 use Rattle.odata_checked_filter.specs.TypeText.{type_text}
 use Rattle.odata_checked_filter.specs.private.Explanation.{kind_label}
-use Rattle.odata_checked_filter.proofs.canonical.Leaves.{on_ok}
+use Rattle.odata_checked_filter.proofs.printed.Results.{on_ok}
 use Rattle.odata_checked_filter.proofs.explained.Lines.{line_joined}
 use Rattle.odata_checked_filter.proofs.explanation.push_node.Goals as goal
 

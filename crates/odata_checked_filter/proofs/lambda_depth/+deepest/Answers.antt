@@ -1,15 +1,13 @@
 use Rattle.std.proofs.Common.{◌≡◌, ◌≤◌, ◌+◌, max, sym, ◌∙◌, arith}
-use Rattle.odata_checked_filter.proofs.flat.Places.{found_before}
-use Rattle.odata_checked_filter.proofs.flat.Standing.{line_onward}
-use Rattle.odata_checked_filter.proofs.nesting.Lines.{first_of, first_within, is_max, rest_behind, rest_below, rest_none}
+use Rattle.odata_checked_filter.proofs.flat.Standing.{line_onward, line_within}
+use Rattle.odata_checked_filter.proofs.nesting.Lines.{first_of, is_max, rest_behind, rest_below, rest_none}
 use Rattle.odata_checked_filter.specs.private.LambdaLines.{deepest_of}
 use Rattle.odata_checked_filter.proofs.lambda_depth.+deepest.Goals as goal
 
 pub node-node-requires : goal.node-node-requires
 node-node-requires t c =
     let rest = c.loop-place.invariant.1 c.requires.0 c.requires.1 in
-    let first = first_within c.args.list.now c.loop-place.place c.args.stop rest.trees rest.line c.loop-place-test.true in
-    found_before c.args.list.now.nodes c.loop-place.place first.0 first.1
+    line_within c.args.list.now c.loop-place.place c.args.stop rest.trees rest.line c.loop-place-test.true
 
 pub deepest-inside-requires : goal.deepest-inside-requires
 deepest-inside-requires t c =

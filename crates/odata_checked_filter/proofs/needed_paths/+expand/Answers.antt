@@ -4,16 +4,14 @@ use Rattle.csdl_schema.specs.SchemaModel.{slots_of, type_name_at}
 use Rattle.odata_signatures.specs.NeededPaths.{path_of}
 use Rattle.odata_signatures.specs.Typed.{with_variable}
 use Rattle.odata_checked_filter.specs.private.NeededPaths.{LeadThere, nodes_in}
-use Rattle.odata_checked_filter.proofs.canonical.Leaves.{on_ok}
-use Rattle.odata_checked_filter.proofs.flat.Places.{found_before}
-use Rattle.odata_checked_filter.proofs.flat.Standing.{lies_nonempty}
+use Rattle.odata_checked_filter.proofs.printed.Results.{on_ok}
+use Rattle.odata_checked_filter.proofs.flat.Standing.{lies_last, lies_within}
 use Rattle.odata_checked_filter.proofs.needed.Bodies.{lambda_puts}
-use Rattle.odata_checked_filter.proofs.needed.Heads.{head_of, lambda_tree, last_there, way_there}
-use Rattle.odata_checked_filter.proofs.needed.Kinds.{typed_there}
+use Rattle.odata_checked_filter.proofs.needed.Heads.{head_of, lambda_tree, way_there}
 use Rattle.odata_checked_filter.proofs.needed.Levels.{nodes_in-Bound}
 use Rattle.odata_checked_filter.proofs.needed.Lines.{IsLeft, left_begin, left_over, line_onward, one_line}
-use Rattle.odata_checked_filter.proofs.needed.Onward.{first_left, past_lambda, past_node, past_way}
-use Rattle.odata_checked_filter.proofs.needed.Operators.{lambda_of, operator_stops, parts_onward}
+use Rattle.odata_checked_filter.proofs.needed.Onward.{first_left, past_lambda, past_node, past_way, tree_now}
+use Rattle.odata_checked_filter.proofs.needed.Operators.{lambda_of, lambda_onward, operator_stops, parts_onward}
 use Rattle.odata_checked_filter.proofs.needed.Sets.{lead_still}
 use Rattle.odata_checked_filter.proofs.nesting.Lines.{is_max}
 use Rattle.odata_checked_filter.proofs.needed_paths.+expand.Goals as goal
@@ -24,14 +22,10 @@ expand-loop-place-init t c = (omega arith, λ scope paths trees line lead. left_
 
 pub expand-node-requires : goal.expand-node-requires
 expand-node-requires t c =
-    let schema = c.args.context.now.schema.now in
-    let n = c.args.context.now.filtered_type in
-    let list = c.args.context.now.list.now in
     let r = c.requires in
-    let left = c.loop-place.invariant.1 r.scope r.paths r.trees r.line r.lead in
-    let first = head_of schema n r.scope list c.loop-place.place c.args.stop left.rest left.line c.loop-place-test.true in
-    let at = typed_there schema n r.scope list c.loop-place.place first.middle first.tree first.stands in
-    found_before list.nodes c.loop-place.place at.0 at.1.0
+    let there = tree_now c.args.context.now c.args.expansion.now c.loop-place.expansion (nodes_in c.args.variables.now) c.args.from c.loop-place.place c.args.stop r
+    (c.loop-place.invariant.1 r.scope r.paths r.trees r.line r.lead) c.loop-place-test.true in
+    lies_within c.args.context.now.schema.now c.args.context.now.filtered_type there.scope c.args.context.now.list.now c.loop-place.place there.stop there.tree there.stands
 
 pub expand-loop-place-preserved : goal.expand-loop-place-preserved
 expand-loop-place-preserved t c =
@@ -61,11 +55,10 @@ expand-lambda_places-places-requires t c =
     let n = c.args.context.now.filtered_type in
     let list = c.args.context.now.list.now in
     let r = c.requires in
-    let left = c.loop-place.invariant.1 r.scope r.paths r.trees r.line r.lead in
-    let first = head_of schema n r.scope list c.loop-place.place c.args.stop left.rest left.line c.loop-place-test.true in
-    let operator = lambda_tree schema n r.scope list c.loop-place.place first.middle first.tree c.node.result first.stands c.node.ensures (sym c.need_class.ensures ∙ c.in-Lambda.is) in
-    let base = typed_there schema n r.scope list (c.loop-place.place + 1) operator.middle operator.base operator.base_stands in
-    found_before list.nodes (c.loop-place.place + 1) base.0 base.1.0
+    let there = tree_now c.args.context.now c.args.expansion.now c.loop-place.expansion (nodes_in c.args.variables.now) c.args.from c.loop-place.place c.args.stop r
+    (c.loop-place.invariant.1 r.scope r.paths r.trees r.line r.lead) c.loop-place-test.true in
+    let operator = lambda_tree schema n there.scope list c.loop-place.place there.stop there.tree c.node.result there.stands c.node.ensures (sym c.need_class.ensures ∙ c.in-Lambda.is) in
+    lies_within schema n there.scope list (c.loop-place.place + 1) operator.middle operator.base operator.base_stands
 
 pub expand-expand_lambda-requires : goal.expand-expand_lambda-requires
 expand-expand_lambda-requires t c =
@@ -123,7 +116,7 @@ expand-loop-place-preserved-in-Lambda t c =
           (lambda_of context scope place first.middle first.tree c.node.result places first.stands c.node.ensures are operator)
           (lead_still old c.loop-place.expansion scope paths (nodes_in c.args.variables.now) left.leads lead) in
           let stops = operator_stops context scope place first.middle first.tree c.node.result places first.stands c.node.ensures are operator in
-          let last = last_there schema n scope list place first.middle first.tree c.node.result first.stands c.node.ensures in
+          let last = lies_last schema n scope list place first.middle first.tree c.node.result first.stands c.node.ensures in
           subst (λ (k : ℕ). IsLeft schema n scope list paths old c.expand_lambda.new.expansion k c.args.stop trees) (last ∙ sym stops)
           (past_lambda schema n scope list paths old c.args.stop trees c.loop-place.expansion c.expand_lambda.new.expansion place left first c.node.result c.node.ensures operator puts),
     )
@@ -131,18 +124,13 @@ expand-loop-place-preserved-in-Lambda t c =
 pub expand-loop-place-smaller-in-Lambda : goal.expand-loop-place-smaller-in-Lambda
 expand-loop-place-smaller-in-Lambda t c =
     let context = c.args.context.now in
-    let schema = context.schema.now in
-    let n = context.filtered_type in
-    let list = context.list.now in
-    let place = c.loop-place.place in
-    let places = c.lambda_places-places.result in
-    let are = c.lambda_places-places.ensures in
     let r = c.requires in
-    let left = c.loop-place.invariant.1 r.scope r.paths r.trees r.line r.lead in
-    let first = head_of schema n r.scope list place c.args.stop left.rest left.line c.loop-place-test.true in
-    let operator = lambda_tree schema n r.scope list place first.middle first.tree c.node.result first.stands c.node.ensures (sym c.need_class.ensures ∙ c.in-Lambda.is) in
-    let parts = parts_onward context r.scope place first.middle first.tree c.node.result places first.stands c.node.ensures are operator in
-    let begins = are.base_is in
+    let there = tree_now c.args.context.now c.args.expansion.now c.loop-place.expansion (nodes_in c.args.variables.now) c.args.from c.loop-place.place c.args.stop r
+    (c.loop-place.invariant.1 r.scope r.paths r.trees r.line r.lead) c.loop-place-test.true in
+    let operator = lambda_tree context.schema.now context.filtered_type there.scope context.list.now c.loop-place.place there.stop there.tree c.node.result there.stands c.node.ensures
+    (sym c.need_class.ensures ∙ c.in-Lambda.is) in
+    let parts = parts_onward context there.scope c.loop-place.place there.stop there.tree c.node.result c.lambda_places-places.result there.stands c.node.ensures c.lambda_places-places.ensures operator in
+    let begins = c.lambda_places-places.ensures.base_is in
     let before = c.loop-place-test.true in
     omega (arith, begins, parts.0, parts.1, before)
 
@@ -150,20 +138,9 @@ expand-loop-place-smaller-in-Lambda t c =
 
 pub expand-expand_operand-requires : goal.expand-expand_operand-requires
 expand-expand_operand-requires t c =
-    let schema = c.args.context.now.schema.now in
-    let n = c.args.context.now.filtered_type in
-    let list = c.args.context.now.list.now in
     let r = c.requires in
-    let left = c.loop-place.invariant.1 r.scope r.paths r.trees r.line r.lead in
-    let first = head_of schema n r.scope list c.loop-place.place c.args.stop left.rest left.line c.loop-place-test.true in
-    record {
-      scope = r.scope;
-      paths = r.paths;
-      stop = first.middle;
-      tree = first.tree;
-      stands = first.stands;
-      lead = lead_still c.args.expansion.now c.loop-place.expansion r.scope r.paths (nodes_in c.args.variables.now) left.leads r.lead;
-    }
+    tree_now c.args.context.now c.args.expansion.now c.loop-place.expansion (nodes_in c.args.variables.now) c.args.from c.loop-place.place c.args.stop r
+    (c.loop-place.invariant.1 r.scope r.paths r.trees r.line r.lead) c.loop-place-test.true
 
 pub expand-loop-place-preserved-in-Path : goal.expand-loop-place-preserved-in-Path
 expand-loop-place-preserved-in-Path t c =
@@ -191,15 +168,13 @@ pub expand_lambda-expand-requires : goal.expand_lambda-expand-requires
 expand_lambda-expand-requires t c =
     let context = c.args.context.now in
     let r = c.requires in
-    let is = r.is in
-    let base = lies_nonempty context.schema.now context.filtered_type r.scope context.list.now c.args.places.now.base c.args.places.now.body r.base is.base_stands in
-    let body = lies_nonempty context.schema.now context.filtered_type _ context.list.now c.args.places.now.body c.args.places.now.stop r.body is.body_stands.body in (
-      omega (arith, base, body),
+    let onward = lambda_onward context r.scope c.args.places.now r.base r.variable r.body r.is in (
+      omega (arith, onward.0, onward.1),
       record {
         scope = r.scope;
         paths = r.paths;
         trees = r.base ∷ [];
-        line = one_line context.schema.now context.filtered_type r.scope context.list.now c.args.places.now.base c.args.places.now.body r.base is.base_stands;
+        line = one_line context.schema.now context.filtered_type r.scope context.list.now c.args.places.now.base c.args.places.now.body r.base r.is.base_stands;
         lead = r.lead;
       },
     )
@@ -230,14 +205,13 @@ expand_lambda-expand-requires-2 t c =
     let r = c.requires in
     let is = r.is in
     let inner = with_variable r.scope r.variable (single is.body_stands.member_type) in
-    let base = lies_nonempty schema n r.scope list places.base places.body r.base is.base_stands in
-    let body = lies_nonempty schema n inner list places.body places.stop r.body is.body_stands.body in
+    let onward = lambda_onward context r.scope places r.base r.variable r.body is in
     let line = one_line schema n r.scope list places.base places.body r.base is.base_stands in
     let first = c.in_ok-expand.ensures r.scope r.paths (r.base ∷ []) line r.lead in
     let mid = lead_still c.args.expansion.now c.expand.new.expansion r.scope r.paths nodes first.leads r.lead in
     let reached = c.in_ok-base.ensures r.scope r.paths places.body r.base is.base_stands mid in
     let way = c.expand_path.new.expansion in (
-      omega (arith, base, body),
+      omega (arith, onward.0, onward.1),
       record {
         scope = inner;
         paths = path_of r.scope r.paths r.base ∷ r.paths;

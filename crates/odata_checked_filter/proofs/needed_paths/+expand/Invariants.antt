@@ -1,4 +1,4 @@
-use Rattle.std.proofs.Common.{◌+◌, ◌*◌, ◌-◌, ◌≤◌, List}
+use Rattle.std.proofs.Common.{ℕ, ◌+◌, ◌*◌, ◌-◌, ◌≤◌, List}
 use Rattle.odata_syntax.specs.Tree.{Tree}
 use Rattle.odata_signatures.specs.NeededPaths.{VariablePaths}
 use Rattle.odata_signatures.specs.Typed.{Scope}
@@ -6,12 +6,18 @@ use Rattle.odata_checked_filter.specs.private.NeededPaths.{LeadThere, StandInLin
 use Rattle.odata_checked_filter.proofs.needed.Lines.{IsLeft}
 use Rattle.odata_checked_filter.proofs.needed_paths.+expand.Given as goal
 
--- the nodes that are left count first, and of the same ones the order of the calls
+-- the nodes from an index to another count first, and of the same ones a lambda operator comes before its run
+abbrev pub run_between : ℕ → ℕ → ℕ
+run_between from stop = 2 * (stop - from)
+
+abbrev pub lambda_between : ℕ → ℕ → ℕ
+lambda_between from stop = run_between from stop + 1
+
 abbrev pub decreases-expand : goal.decreases-expand
-decreases-expand l = 2 * (l.stop - l.from)
+decreases-expand l = run_between l.from l.stop
 
 abbrev pub decreases-expand_lambda : goal.decreases-expand_lambda
-decreases-expand_lambda l = 2 * (l.places.now.stop - l.places.now.base) + 1
+decreases-expand_lambda l = lambda_between l.places.now.base l.places.now.stop
 
 -- after the node stand trees with which the set so far makes that of all
 abbrev pub invariant-expand-loop-place : goal.invariant-expand-loop-place

@@ -3,8 +3,9 @@ use Rattle.csdl_schema.specs.ExpansionView.{LeadsTo}
 use Rattle.csdl_schema.specs.SchemaModel.{properties_at}
 use Rattle.odata_checked_filter.specs.Stands.{variable_names}
 use Rattle.odata_checked_filter.specs.private.NeededPaths.{IsTargetAt, Puts, nodes_in}
-use Rattle.odata_checked_filter.proofs.flat.Places.{found_before, same_found}
-use Rattle.odata_checked_filter.proofs.needed.Kinds.{other_there, property_there, typed_there, variable_there}
+use Rattle.odata_checked_filter.proofs.flat.Places.{same_found}
+use Rattle.odata_checked_filter.proofs.flat.Standing.{lies_within}
+use Rattle.odata_checked_filter.proofs.needed.Kinds.{other_there, property_there, variable_there}
 use Rattle.odata_checked_filter.proofs.needed.Levels.{as_many_nodes, level_within}
 use Rattle.odata_checked_filter.proofs.needed.Paths.{other_end, property_end, variable_end}
 use Rattle.odata_checked_filter.proofs.needed.StepRows.{no_step}
@@ -15,16 +16,12 @@ use Rattle.odata_checked_filter.proofs.needed_paths.expand_base.Goals as goal
 pub text-name-requires : goal.text-name-requires
 text-name-requires c =
     let r = c.requires.stands in
-    let list = c.args.context.now.list.now in
-    let at = typed_there c.args.context.now.schema.now c.args.context.now.filtered_type r.scope list c.args.place r.stop r.tree r.stands in
-    found_before list.nodes c.args.place at.0 at.1.0
+    lies_within c.args.context.now.schema.now c.args.context.now.filtered_type r.scope c.args.context.now.list.now c.args.place r.stop r.tree r.stands
 
 pub node-requires : goal.node-requires
 node-requires c =
     let r = c.requires.stands in
-    let list = c.args.context.now.list.now in
-    let at = typed_there c.args.context.now.schema.now c.args.context.now.filtered_type r.scope list c.args.place r.stop r.tree r.stands in
-    found_before list.nodes c.args.place at.0 at.1.0
+    lies_within c.args.context.now.schema.now c.args.context.now.filtered_type r.scope c.args.context.now.list.now c.args.place r.stop r.tree r.stands
 
 pub property-requires : goal.property-requires
 property-requires c =

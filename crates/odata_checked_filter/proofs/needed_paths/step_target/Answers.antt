@@ -6,10 +6,9 @@ use Rattle.odata_signatures.specs.declared.edm_type.ValueType.{ValueType}
 use Rattle.odata_checked_filter.specs.declared.checked_node.CheckedNode.{CheckedNode}
 use Rattle.odata_checked_filter.specs.declared.checked_node.NodeKind.{NodeKind}
 use Rattle.odata_checked_filter.specs.private.NeededPaths.{IsTargetAt}
-use Rattle.odata_checked_filter.proofs.flat.Places.{found_before, same_found}
-use Rattle.odata_checked_filter.proofs.flat.Standing.{lies_nonempty}
-use Rattle.odata_checked_filter.proofs.needed.Heads.{last_there}
-use Rattle.odata_checked_filter.proofs.needed.Kinds.{step_there, typed_there}
+use Rattle.odata_checked_filter.proofs.flat.Places.{same_found}
+use Rattle.odata_checked_filter.proofs.flat.Standing.{lies_last, lies_nonempty, lies_within}
+use Rattle.odata_checked_filter.proofs.needed.Kinds.{step_there}
 use Rattle.odata_checked_filter.proofs.needed.Paths.{owner_there}
 use Rattle.odata_checked_filter.proofs.needed.StepRows.{some_there}
 use Rattle.odata_checked_filter.proofs.needed_paths.step_target.Goals as goal
@@ -21,9 +20,7 @@ place_fits place stop found before last fits = omega (arith, before, last, fits)
 pub node-requires : goal.node-requires
 node-requires c =
     let r = c.requires in
-    let list = c.args.context.now.list.now in
-    let at = typed_there c.args.context.now.schema.now c.args.context.now.filtered_type r.scope list c.args.place r.stop r.tree r.stands in
-    found_before list.nodes c.args.place at.0 at.1.0
+    lies_within c.args.context.now.schema.now c.args.context.now.filtered_type r.scope c.args.context.now.list.now c.args.place r.stop r.tree r.stands
 
 pub overflow_add-place : goal.overflow_add-place
 overflow_add-place c =
@@ -33,7 +30,7 @@ overflow_add-place c =
     let list = c.args.context.now.list.now in
     let there = step_there schema n r.scope list c.args.place r.stop c.in-Member.slot r.tree c.node.result r.stands c.node.ensures c.in-Member.is in
     let before : c.args.place + 1 < r.stop = lies_nonempty schema n r.scope list (c.args.place + 1) r.stop there.base there.base_stands in
-    let last = last_there schema n r.scope list c.args.place r.stop r.tree c.node.result r.stands c.node.ensures in
+    let last = lies_last schema n r.scope list c.args.place r.stop r.tree c.node.result r.stands c.node.ensures in
     place_fits c.args.place r.stop c.node.result before last (search (rules, c.node.type_inv))
 
 pub node-base-requires : goal.node-base-requires
@@ -43,8 +40,7 @@ node-base-requires c =
     let n = c.args.context.now.filtered_type in
     let list = c.args.context.now.list.now in
     let there = step_there schema n r.scope list c.args.place r.stop c.in-Member.slot r.tree c.node.result r.stands c.node.ensures c.in-Member.is in
-    let at = typed_there schema n r.scope list (c.args.place + 1) r.stop there.base there.base_stands in
-    found_before list.nodes (c.args.place + 1) at.0 at.1.0
+    lies_within schema n r.scope list (c.args.place + 1) r.stop there.base there.base_stands
 
 pub target_at-requires : goal.target_at-requires
 target_at-requires c =

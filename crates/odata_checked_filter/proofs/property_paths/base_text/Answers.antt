@@ -5,18 +5,17 @@ use Rattle.odata_signatures.specs.Typed.{Scope}
 use Rattle.odata_checked_filter.specs.FlatTree.{FlatTree}
 use Rattle.odata_checked_filter.specs.PropertyPaths.{path_text}
 use Rattle.odata_checked_filter.specs.private.PropertyPaths.{AreBound, NamedText, bound_in, text_named}
-use Rattle.odata_checked_filter.proofs.flat.Places.{found_before, same_found}
+use Rattle.odata_checked_filter.proofs.flat.Places.{same_found}
+use Rattle.odata_checked_filter.proofs.flat.Standing.{between_within}
 use Rattle.odata_checked_filter.proofs.named.Texts.{name_text}
-use Rattle.odata_checked_filter.proofs.named.Trees.{IsName, found_there, no_path_there, property_name, variable_name}
+use Rattle.odata_checked_filter.proofs.named.Trees.{IsName, no_path_there, property_name, variable_name}
 use Rattle.odata_checked_filter.proofs.needed.StepRows.{no_step}
 use Rattle.odata_checked_filter.proofs.property_paths.base_text.Goals as goal
 
 -- the text of a name's path
 name_path_text :
     (list : FlatTree) (place : ℕ) (tree : Tree) (scope : Scope) (paths : VariablePaths) (bound : List NamedText) (beside : List ℕ)
-    → IsName list place tree
-    → AreBound scope paths bound
-    → slice_get list.texts place ≡ Some beside
+    → IsName list place tree → AreBound scope paths bound → slice_get list.texts place ≡ Some beside
     → unwrap_or (text_named bound beside) beside ≡ path_text (path_of scope paths tree)
 name_path_text list place tree scope paths bound beside named are at =
     let same : beside ≡ named.asked = same_found (slice_get list.texts place) beside named.asked at named.text_at in
@@ -25,18 +24,10 @@ name_path_text list place tree scope paths bound beside named are at =
     ∙ ap (λ (t : Tree). path_text (path_of scope paths t)) (sym named.is)
 
 pub text-name-requires : goal.text-name-requires
-text-name-requires c =
-    let r = c.requires.stands in
-    let list = c.args.context.now.list.now in
-    let at = found_there list c.args.place r.stop r.tree r.stands in
-    found_before list.nodes c.args.place at.0 at.1
+text-name-requires c = between_within c.args.context.now.list.now c.args.place c.requires.stands.stop c.requires.stands.tree c.requires.stands.stands
 
 pub node-requires : goal.node-requires
-node-requires c =
-    let r = c.requires.stands in
-    let list = c.args.context.now.list.now in
-    let at = found_there list c.args.place r.stop r.tree r.stands in
-    found_before list.nodes c.args.place at.0 at.1
+node-requires c = between_within c.args.context.now.list.now c.args.place c.requires.stands.stop c.requires.stands.tree c.requires.stands.stands
 
 pub returns-in-Property : goal.returns-in-Property
 returns-in-Property c scope paths stop tree stands are =

@@ -1,10 +1,10 @@
-use Rattle.std.proofs.Common.{◌≡◌, ◌-◌, ◌∙◌, ℕ, List, ap, arith, slice_get, subst, sym}
+use Rattle.std.proofs.Common.{[], ◌≡◌, ◌-◌, ◌∙◌, ℕ, List, ap, arith, slice_get, subst, sym}
+use Rattle.std.proofs.lemmas.List.Sums.{fold_push}
 use Rattle.odata_syntax.specs.Tree.{Tree}
 use Rattle.odata_signatures.specs.NeededPaths.{path_of}
 use Rattle.odata_checked_filter.specs.PropertyPaths.{path_text, with_step}
 use Rattle.odata_checked_filter.specs.private.LambdaLines.{StandsBetween}
 use Rattle.odata_checked_filter.proofs.flat.Places.{before_is, found_before, same_found}
-use Rattle.odata_checked_filter.proofs.named.Texts.{step_text}
 use Rattle.odata_checked_filter.proofs.named.Trees.{step_of}
 use Rattle.odata_checked_filter.proofs.needed.StepRows.{stands_below, step_found}
 use Rattle.odata_checked_filter.proofs.property_paths.path_at.Goals as goal
@@ -45,7 +45,7 @@ loop-at-preserved c =
           c.in_ok-put_step.ensures
           ∙ ap (λ (text : List ℕ). with_step text c.text.result.now) before
           ∙ ap (with_step (path_text (path_of scope paths there.base))) beside
-          ∙ sym (step_text (path_of scope paths there.base) there.asked)
+          ∙ sym (fold_push with_step [] (path_of scope paths there.base) there.asked)
           ∙ ap (λ (t : Tree). path_text (path_of scope paths t)) (sym there.is);
     }
 

@@ -1,4 +1,4 @@
-use Rattle.std.proofs.Common.{◌≡◌, ◌∙◌, ◌∷◌, [], ℕ, List, ap, length, map, string_bytes, subst, sym}
+use Rattle.std.proofs.Common.{◌≡◌, ◌∙◌, ◌∷◌, [], ℕ, List, ap, length, map, refl, string_bytes, subst, sym}
 use Rattle.odata_syntax.specs.Tree.{Tree}
 use Rattle.odata_checked_filter.specs.FlatTree.{FlatTree}
 use Rattle.odata_checked_filter.specs.PropertyPaths.{unseen}
@@ -11,8 +11,7 @@ use Rattle.odata_checked_filter.proofs.property_paths.paths_of_list.Goals as goa
 
 -- the whole list is one tree
 whole_line : (list : FlatTree) (nodes : List CheckedNode) (tree : Tree) → nodes ≡ list.nodes → StandsBetween list 0 (length list.nodes) tree → AreInLine list 0 (length nodes) (tree ∷ [])
-whole_line list nodes tree same stands =
-    subst (λ (ns : List CheckedNode). AreInLine list 0 (length ns) (tree ∷ [])) (sym same) (base_line list 0 (length list.nodes) tree stands)
+whole_line list nodes tree same = base_line list 0 (length list.nodes) 0 (length nodes) tree refl (ap (λ (ns : List CheckedNode). length ns) same)
 
 pub put_paths-requires : goal.put_paths-requires
 put_paths-requires c =

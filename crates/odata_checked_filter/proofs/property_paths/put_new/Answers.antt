@@ -9,10 +9,7 @@ use Rattle.odata_checked_filter.proofs.property_paths.put_new.Goals.{then-is_emp
 -- whether the text is one of the code's
 among_is :
     (held items : List (String Global)) (asked text : List ℕ) (answer is : Bool)
-    → held ≡ items
-    → asked ≡ text
-    → answer ≡ list_any (λ s. pointwise nat_eq asked (string_bytes s)) held
-    → answer ≡ is
+    → held ≡ items → asked ≡ text → answer ≡ list_any (λ s. pointwise nat_eq asked (string_bytes s)) held → answer ≡ is
     → list_any (pointwise nat_eq text) (map string_bytes items) ≡ is
 among_is held items asked text answer is same spelled reported found =
     sym (any_map (pointwise nat_eq text) string_bytes items)

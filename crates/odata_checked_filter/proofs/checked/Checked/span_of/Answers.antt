@@ -1,12 +1,13 @@
-use Rattle.std.proofs.Common.{sym, ap}
+use Rattle.std.proofs.Common.{◌∙◌, Some, ap, sym}
 use Rattle.std.specs.Option.{option_map}
 use Rattle.odata_signatures.specs.PreOrder.{span_of_tree}
-use Rattle.odata_checked_filter.proofs.flat.Numbered.{numbered, past_end, past_ordered, span_at}
+use Rattle.odata_checked_filter.proofs.flat.Numbered.{numbered, past_end, past_ordered}
 use Rattle.odata_checked_filter.proofs.checked.Checked.span_of.Goals as goal
 
 pub returns-in-Some : goal.returns-in-Some
 returns-in-Some c =
-    span_at c.args.self.now c.args.node c.in-Some.found.now (numbered c.args.self.now c.args.node c.in-Some.found.now c.node_at.ensures.right (sym c.in-Some.ensures.same))
+    let is = numbered c.args.self.now c.args.node c.in-Some.found.now c.node_at.ensures.right (sym c.in-Some.ensures.same) in
+    ap Some is.says.span ∙ sym (ap (option_map span_of_tree) is.ordered)
 
 pub returns-in-None : goal.returns-in-None
 returns-in-None c =
