@@ -1,7 +1,8 @@
 -- What arithmetic evaluates to, of operands within two ranges.
-use Rattle.odata_ranges.proofs.Common.{◌≡◌, ◌≢◌, ◌⊎◌, inl, inr, ℤ, pos, ◌*ℤ◌, ◌<ℤ◌, ◌≤ℤ◌, Bool, true, false, ◌||◌, Option, Some, None, Result, Ok, Err, refl, sym, subst, ◌∙◌, int_div, int_rem, by_lt_z, IsNumberOf, null, whole, PrimitiveType, number_outcome, Outcome, division, one_quotient, ArithmeticGives, IsDividing, MakesNumber, ArithFault, Overflow, DivideByZero, ArithmeticOperator, HoldsNumber, IsBounded, LiesBetween, Reaches, CalculatesWithin, IsWithin, Range}
+use Rattle.odata_ranges.proofs.Common.{◌≡◌, ◌≢◌, ◌⊎◌, inl, inr, ℤ, pos, ◌*ℤ◌, ◌<ℤ◌, ◌≤ℤ◌, Bool, true, false, ◌||◌, Option, Some, None, Result, Ok, Err, sym, subst, int_div, int_rem, by_lt_z, IsNumberOf, null, whole, PrimitiveType, number_outcome, Outcome, division, one_quotient, ArithmeticGives, IsDividing, MakesNumber, ArithFault, Overflow, DivideByZero, ArithmeticOperator, HoldsNumber, IsBounded, LiesBetween, Reaches, CalculatesWithin, IsWithin, Range}
 use Rattle.odata_ranges.proofs.Corners.{product_between, quotient_between}
 use Rattle.odata_ranges.proofs.Counts.{fault_or}
+use Rattle.odata_ranges.proofs.Flags.{of_left, of_right}
 
 -- ---- spans by their corners
 
@@ -21,15 +22,12 @@ apart_from_zero right bounded without =
     by_lt_z (pos 0) right.low (λ above. inl above)
     (λ low. by_lt_z right.high (pos 0) (λ below. inr below) (λ high. absurd (without (low, high))))
 
-pub no_zero : (right : Range) (b : ℤ) → (HoldsNumber right (pos 0) → ⊥) → HoldsNumber right b → b ≢ pos 0
-no_zero right b without holds same = without (subst (λ (z : ℤ). HoldsNumber right z) same holds)
-
 pub quotient_reaches : (left right : Range) (p q r s : ℤ) (span : ℤ × ℤ) → IsBounded right → (HoldsNumber right (pos 0) → ⊥)
     → p ≡ int_div left.low right.low → q ≡ int_div left.low right.high → r ≡ int_div left.high right.low → s ≡ int_div left.high right.high
     → (span.0 ≤ℤ p) × (span.0 ≤ℤ q) × (span.0 ≤ℤ r) × (span.0 ≤ℤ s)
     → (p ≤ℤ span.1) × (q ≤ℤ span.1) × (r ≤ℤ span.1) × (s ≤ℤ span.1) → Reaches ArithmeticOperator.Div left right span
 quotient_reaches left right p q r s span bounded without is_p is_q is_r is_s lows highs = λ a b n in_left in_right made.
-    let other = no_zero right b without in_right in
+    let other : b ≢ pos 0 = λ same. without (subst (λ (z : ℤ). HoldsNumber right z) same in_right) in
     let is : n ≡ int_div a b = one_quotient a b n made.0 (int_div a b) (int_rem a b) made.1 (division a b other) in
     subst (λ (z : ℤ). LiesBetween span.0 span.1 z) (sym is)
     (quotient_between span.0 span.1 left.low a left.high right.low b right.high (apart_from_zero right bounded without) other
@@ -38,12 +36,6 @@ quotient_reaches left right p q r s span bounded without is_p is_q is_r is_s low
     (subst (λ (z : ℤ). z ≤ℤ span.1) is_p highs.0, subst (λ (z : ℤ). z ≤ℤ span.1) is_q highs.1, subst (λ (z : ℤ). z ≤ℤ span.1) is_r highs.2, subst (λ (z : ℤ). z ≤ℤ span.1) is_s highs.3))
 
 -- ---- outcomes
-
-either_null : (l r : Bool) → (l ≡ true) ⊎ (r ≡ true) → (l || r) ≡ true
-either_null true r (inl is) = refl
-either_null false r (inl is) = cc
-either_null true r (inr is) = refl
-either_null false r (inr is) = is
 
 pub true_false : (b : Bool) → b ≡ true → b ≡ false → ⊥
 true_false b is other = cc
@@ -74,11 +66,11 @@ module _ (operator : ArithmeticOperator) (type : PrimitiveType) (left right resu
 
   pub calculated_within : CalculatesWithin operator type left right result
   calculated_within null null o of_v of_w given =
-      subst (λ (x : Outcome). IsWithin result x) (sym given) (h.null_is ∙ either_null left.may_be_null right.may_be_null (inl of_v))
+      subst (λ (x : Outcome). IsWithin result x) (sym given) (of_left result.may_be_null left.may_be_null right.may_be_null h.null_is of_v)
   calculated_within null (whole b) o of_v of_w given =
-      subst (λ (x : Outcome). IsWithin result x) (sym given) (h.null_is ∙ either_null left.may_be_null right.may_be_null (inl of_v))
+      subst (λ (x : Outcome). IsWithin result x) (sym given) (of_left result.may_be_null left.may_be_null right.may_be_null h.null_is of_v)
   calculated_within (whole a) null o of_v of_w given =
-      subst (λ (x : Outcome). IsWithin result x) (sym given) (h.null_is ∙ either_null left.may_be_null right.may_be_null (inr of_w))
+      subst (λ (x : Outcome). IsWithin result x) (sym given) (of_right result.may_be_null left.may_be_null right.may_be_null h.null_is of_w)
   calculated_within (whole a) (whole b) o of_v of_w given =
       subst (λ (x : Outcome). IsWithin result x) (sym given.2) (answer_within a b given.0 of_v of_w given.1)
   calculated_within _ _ o of_v of_w given = absurd given

@@ -3,7 +3,7 @@ use Rattle.odata_ranges.proofs.Common.{◌≡◌, ℕ, zero, suc, ◌+◌, ◌-�
 use Rattle.std.specs.Str.{chars}
 use Rattle.std.specs.Char.{to_ascii_lowercase, to_ascii_uppercase}
 use Rattle.std.proofs.Math.Utf8.{scalars}
-use Rattle.std.proofs.lemmas.List.{length-map}
+use Rattle.std.proofs.lemmas.List.{length-map, length-take}
 use Rattle.std.proofs.lemmas.Str.{chars-encodes, scalars-chars}
 use Rattle.edm_values.specs.Instant.{offset_of}
 use Rattle.odata_functions.specs.DateParts.{IsDayOf, IsMonthOf, IsYearOf, hour_of, minute_of, second_of}
@@ -45,11 +45,6 @@ place_up_to entire part high (negsuc n) is most = omega (arith, ints)
 dropped_few : (n : ℕ) (xs : List ℕ) → length (drop n xs) ≤ length xs
 dropped_few n xs = omega (arith, length-drop n xs)
 
-taken_few : (n : ℕ) (xs : List ℕ) → length (take n xs) ≤ length xs
-taken_few zero xs = omega arith
-taken_few (suc n) [] = omega arith
-taken_few (suc n) (x ∷ xs) = omega (arith, taken_few n xs)
-
 -- counts of type Int32, by the contract of what makes the range
 abbrev pub Counts : Range → ℤ → ℤ → Type 0
 Counts result low high =
@@ -83,7 +78,7 @@ module _ (first second result : Range) where
   substring_within up now (text s ∷ whole n ∷ whole m ∷ []) o are given =
       let rest = rest_from n (chars s) in
       let few : length (take (from_zero m) rest) ≤ length (chars s) =
-      omega (arith, taken_few (from_zero m) rest, dropped_few (from_zero n) (chars s)) in
+      omega (arith, length-take (from_zero m) rest, dropped_few (from_zero n) (chars s)) in
       text_within result (part_from n m (chars s)) o
       (taken_characters (from_zero m) rest (dropped_characters (from_zero n) (chars s) (scalars-chars s are.0.0)))
       (up _ (fewer first.high _ (length (chars s)) few are.0.1.1)) given

@@ -12,7 +12,7 @@ pub use Rattle.edm_values.specs.declared.value.Value.{Value}
 pub use Rattle.odata_checked_filter.proofs.flat.Children.{body_there, one_there, two_there}
 pub use Rattle.odata_checked_filter.proofs.flat.Lying.{stands_lie}
 pub use Rattle.odata_checked_filter.proofs.flat.Numbered.{numbered}
-pub use Rattle.odata_checked_filter.proofs.flat.Places.{same_found}
+pub use Rattle.odata_checked_filter.proofs.flat.Places.{found_before, same_found}
 pub use Rattle.odata_checked_filter.proofs.flat.Standing.{lie_onward, lies_nonempty}
 pub use Rattle.odata_checked_filter.specs.Filter.{Filter, IsFilter, tree_of_filter}
 pub use Rattle.odata_checked_filter.specs.FlatTree.{FlatTree}
@@ -78,10 +78,10 @@ pub use Rattle.odata_syntax.specs.declared.binary_operator.ComparisonOperator.Th
 pub use Rattle.odata_syntax.specs.declared.node.LiteralKind.{LiteralKind}
 pub use Rattle.odata_syntax.specs.declared.node.Quantifier.{Quantifier}
 pub use Rattle.odata_syntax.specs.declared.node.Quantifier.TheVariants.{All, Any}
-pub use Rattle.std.proofs.Common.{Bool, Err, IsUtf8, List, None, Ok, Option, Result, Some, [], ap, arith, cond, drop, false, find, inl, inr, int_div, int_rem, length, length-append, length-drop, lit<, map, nat_eq, neg_ℤ, negsuc, pos, position, refl, slice_get, slice_set, subst, suc, sym, take, true, unsigned_abs, zero, ℕ, ℤ, ◌*ℤ◌, ◌*◌, ◌++◌, ◌+◌, ◌-ℤ◌, ◌-◌, ◌/◌, ◌<ℤ◌, ◌<◌, ◌||◌, ◌↔◌, ◌∙◌, ◌∷◌, ◌≡◌, ◌≢◌, ◌≤ℤ◌, ◌≤◌, ◌⊎◌}
+pub use Rattle.std.proofs.Common.{Bool, Err, IsUtf8, List, None, Ok, Option, Result, Some, [], ap, arith, cond, drop, false, find, get_or, inl, inr, int_div, int_rem, length, length-append, length-drop, length-set, lit<, map, nat_eq, neg_ℤ, negsuc, pos, position, refl, rules, slice_get, slice_set, subst, suc, sym, take, true, unsigned_abs, zero, ℕ, ℤ, ◌*ℤ◌, ◌*◌, ◌++◌, ◌+◌, ◌-ℤ◌, ◌-◌, ◌/◌, ◌<ℤ◌, ◌<◌, ◌||◌, ◌↔◌, ◌∙◌, ◌∷◌, ◌≡◌, ◌≢◌, ◌≤ℤ◌, ◌≤◌, ◌⊎◌}
 pub use Rattle.std.proofs.Math.Nat.{div-mul-le_self, le-div_iff_mul-le, mod-le, mul-le-mul_left, mul-le-mul_right}
-pub use Rattle.std.proofs.lemmas.Int.{by_lt_z, fits_signed_mul, ints}
-pub use Rattle.std.proofs.lemmas.Option.{slice_get_within}
+pub use Rattle.std.proofs.lemmas.Int.{by_lt_z, fits_signed_mul, ints, to_z-of_z}
+pub use Rattle.std.proofs.lemmas.Option.{slice_get-get_or, slice_get_within}
 pub use Rattle.std.specs.Cmp.Lexicographic.{pointwise}
 pub use Rattle.std.specs.Int.{w128, w32, w64}
 pub use Rattle.std.specs.List.{AllByRecursion, position_or_len}

@@ -105,15 +105,11 @@ over_below (negsuc x) m b k kb bm =
 
 above_between : (a m b k : ℤ) → pos 0 <ℤ m → m ≤ℤ b → b ≤ℤ k → Between (int_div a m) (int_div a b) (int_div a k)
 above_between a (pos m) (pos b) (pos k) above mb bk = over_above a m b k (omega (arith, ints)) (omega (arith, ints)) (omega (arith, ints))
-above_between a (pos m) (pos b) (negsuc k) above mb bk = absurd (omega (arith, ints))
-above_between a (pos m) (negsuc b) k above mb bk = absurd (omega (arith, ints))
-above_between a (negsuc m) b k above mb bk = absurd (omega (arith, ints))
+above_between a _ _ _ above mb bk = absurd (omega (arith, ints))
 
 below_between : (a m b k : ℤ) → k <ℤ pos 0 → m ≤ℤ b → b ≤ℤ k → Between (int_div a m) (int_div a b) (int_div a k)
 below_between a (negsuc m) (negsuc b) (negsuc k) below mb bk = over_below a m b k (omega (arith, ints)) (omega (arith, ints))
-below_between a (pos m) (negsuc b) (negsuc k) below mb bk = absurd (omega (arith, ints))
-below_between a m (pos b) (negsuc k) below mb bk = absurd (omega (arith, ints))
-below_between a m b (pos k) below mb bk = absurd (omega (arith, ints))
+below_between a _ _ _ below mb bk = absurd (omega (arith, ints))
 
 over_between : (a m b k : ℤ) → (pos 0 <ℤ m) ⊎ (k <ℤ pos 0) → m ≤ℤ b → b ≤ℤ k → Between (int_div a m) (int_div a b) (int_div a k)
 over_between a m b k (inl above) mb bk = above_between a m b k above mb bk

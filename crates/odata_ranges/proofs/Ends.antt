@@ -1,42 +1,23 @@
 -- Where trees end: within the list of nodes, and after their children.
-use Rattle.odata_ranges.proofs.Common.{◌≡◌, ℕ, ◌<◌, ◌≤◌, ◌+◌, Some, length, slice_get, arith, slice_get_within, Shape, Tree, Trees, any_item, binary, call, count, has, in_list, in_path, lambda, logical_not, member, more_trees, negation, no_trees, node, single, Filter, IsFilter, AllLie, ChildrenLie, SideBySide, CheckedNode, NodeKind, body_there, one_there, two_there, numbered, lies_nonempty, refl, Scope, with_variable, NodeForm, form_of}
-use Rattle.odata_ranges.proofs.Layouts.{LiesIn, by_kind, stop_there}
+use Rattle.odata_ranges.proofs.Common.{◌≡◌, ℕ, ◌<◌, ◌≤◌, ◌+◌, Some, length, slice_get, arith, Tree, count, Filter, IsFilter, SideBySide, CheckedNode, NodeKind, body_there, one_there, two_there, numbered, lies_nonempty, refl, Scope, NodeForm, form_of, ◌-◌, variable_names}
+use Rattle.odata_ranges.proofs.Layouts.{LiesIn, by_kind, inside_there, stop_there}
+use Rattle.odata_checked_filter.proofs.flat.Parts.{part_stands, parts_count}
+use Rattle.odata_checked_filter.proofs.flat.Places.{found_within}
+use Rattle.odata_checked_filter.proofs.flat.Standing.{lies_size}
+use Rattle.odata_checked_filter.specs.ScopedNodes.{scoped_nodes}
+use Rattle.odata_signatures.specs.PreOrder.{pre_order}
 
-mutual
-  ends_inside : (filter : Filter) (scope : Scope) (i j : ℕ) (tree : Tree) → LiesIn filter scope i j tree → j ≤ length filter.list.nodes
-  ends_inside filter scope i j (node start stop shape) stands =
-      let there = slice_get_within filter.list.nodes i stands.top.found stands.top.stands_at in
-      children_inside filter scope (i + 1) j shape (omega (arith, there)) stands.children
-
-  children_inside : (filter : Filter) (scope : Scope) (i j : ℕ) (shape : Shape) → i ≤ length filter.list.nodes
-      → ChildrenLie filter.schema filter.filtered scope filter.list i j shape → j ≤ length filter.list.nodes
-  children_inside filter scope i j (member base asked) most stand = ends_inside filter scope i j base (one_there filter.schema filter.filtered scope filter.list i j base stand)
-  children_inside filter scope i j (count base) most stand = ends_inside filter scope i j base (one_there filter.schema filter.filtered scope filter.list i j base stand)
-  children_inside filter scope i j (negation operand) most stand = ends_inside filter scope i j operand (one_there filter.schema filter.filtered scope filter.list i j operand stand)
-  children_inside filter scope i j (logical_not operand) most stand = ends_inside filter scope i j operand (one_there filter.schema filter.filtered scope filter.list i j operand stand)
-  children_inside filter scope i j (binary operator left right) most stand =
-      let two = two_there filter.schema filter.filtered scope filter.list i j left right stand in
-      ends_inside filter scope two.middle j right two.right
-  children_inside filter scope i j (has left right) most stand =
-      let two = two_there filter.schema filter.filtered scope filter.list i j left right stand in
-      ends_inside filter scope two.middle j right two.right
-  children_inside filter scope i j (in_list left items) most stand =
-      trees_inside filter scope stand.middle j items (ends_inside filter scope i stand.middle left stand.left) stand.right
-  children_inside filter scope i j (in_path left path) most stand =
-      let two = two_there filter.schema filter.filtered scope filter.list i j left path stand in
-      ends_inside filter scope two.middle j path two.right
-  children_inside filter scope i j (call asked arguments) most stand = trees_inside filter scope i j arguments most stand
-  children_inside filter scope i j (any_item base) most stand = ends_inside filter scope i j base (one_there filter.schema filter.filtered scope filter.list i j base stand)
-  children_inside filter scope i j (lambda quantifier base variable body) most stand =
-      let two = body_there filter.schema filter.filtered scope filter.list i j base variable body stand in
-      ends_inside filter (with_variable scope variable (single two.right.member_type)) two.middle j body two.right.body
-  children_inside filter scope i j _ most stand = let e : i ≡ j = stand in omega (arith, e, most)
-
-  trees_inside : (filter : Filter) (scope : Scope) (i j : ℕ) (trees : Trees) → i ≤ length filter.list.nodes
-      → AllLie filter.schema filter.filtered scope filter.list i j trees → j ≤ length filter.list.nodes
-  trees_inside filter scope i j no_trees most stand = let e : i ≡ j = stand in omega (arith, e, most)
-  trees_inside filter scope i j (more_trees tree trees) most stand =
-      trees_inside filter scope stand.middle j trees (ends_inside filter scope i stand.middle tree stand.left) stand.right
+-- the last node of a tree is one of the list
+ends_inside : (filter : Filter) (scope : Scope) (i j : ℕ) (tree : Tree) → LiesIn filter scope i j tree → j ≤ length filter.list.nodes
+ends_inside filter scope i j tree stands =
+    let nodes = scoped_nodes (variable_names scope) tree in
+    let size : j ≡ i + length (pre_order tree) = lies_size filter.schema filter.filtered scope filter.list i j tree stands in
+    let some : i < j = lies_nonempty filter.schema filter.filtered scope filter.list i j tree stands in
+    let count : length nodes ≡ length (pre_order tree) = parts_count (variable_names scope) tree in
+    let last = found_within nodes (length nodes - 1) (omega arith) in
+    let there = part_stands filter.schema filter.filtered filter.list scope i j tree (length nodes - 1) last.0 stands last.1 in
+    let inside : i + (length nodes - 1) < length filter.list.nodes = inside_there filter there.inner (i + (length nodes - 1)) there.j last.0.part there.stands in
+    omega arith
 
 module _ (filter : Filter) (is : IsFilter filter) (place : ℕ) (found : CheckedNode) (at : slice_get filter.list.nodes place ≡ Some found) where
   pub stop_inside : found.stop ≤ length filter.list.nodes

@@ -1,6 +1,6 @@
 -- A value that fits, and that the engines can keep, is kept as its type says.
 use Rattle.odata_ranges.proofs.Common.{◌≡◌, List, [], ◌∷◌, Bool, true, false, Option, Some, None, refl, sym, subst, AllByRecursion, Val, null, text, fields, items, FieldVal, absent, present, Vals, no_items, item, PrimitiveType, ExprType, single, collection, SingleType, primitive, enumeration, structured, Slots, PropertyModel, PropertyType, declared, opaque, navigation, expanded, slots_of, type_name_at, AreKept, IsKept, IsKeptProperty, IsNullOnlyIf, property_takes_null}
-use Rattle.serde_json.specs.Data.{Data, boolean as json_boolean, number, string, array, object, Items, no_items as no_json, item as json_item}
+use Rattle.serde_json.specs.Data.{Data, null as json_null, Items, no_items as no_json, item as json_item}
 use Rattle.serde_json.specs.Find.{get}
 use Rattle.edm_values.specs.declared.primitive.PrimitiveType.TheVariants.{Bool as EdmBoolean, String as EdmString, Date as EdmDate, DateTimeOffset as EdmDateTimeOffset, Guid as EdmGuid}
 use Rattle.odata_expansion.specs.ExpansionView.{paths_in}
@@ -35,12 +35,9 @@ some_kept slots held nullable type takes json _ fits kept = (tt, kept)
 
 found_kept : (slots held : Slots) (nullable : Bool) (type : ExprType) (found : Option Data) (takes : Bool) (v : Val)
     → ((json : Data) → FitsType held nullable type json v → IsKept slots type v) → FitsFound found takes v (λ json. FitsType held nullable type json v) → KeptIf slots type takes v
-found_kept slots held nullable type (Some (json_boolean b)) takes v further fits = some_kept slots held nullable type takes (json_boolean b) v fits (further (json_boolean b) fits)
-found_kept slots held nullable type (Some (number n)) takes v further fits = some_kept slots held nullable type takes (number n) v fits (further (number n) fits)
-found_kept slots held nullable type (Some (string s)) takes v further fits = some_kept slots held nullable type takes (string s) v fits (further (string s) fits)
-found_kept slots held nullable type (Some (array ds)) takes v further fits = some_kept slots held nullable type takes (array ds) v fits (further (array ds) fits)
-found_kept slots held nullable type (Some (object ms)) takes v further fits = some_kept slots held nullable type takes (object ms) v fits (further (object ms) fits)
-found_kept slots held nullable type _ takes v further fits = subst (KeptIf slots type takes) (sym fits.1) (fits.0, tt)
+found_kept slots held nullable type None takes v further fits = subst (KeptIf slots type takes) (sym fits.1) (fits.0, tt)
+found_kept slots held nullable type (Some json_null) takes v further fits = subst (KeptIf slots type takes) (sym fits.1) (fits.0, tt)
+found_kept slots held nullable type (Some json) takes v further fits = some_kept slots held nullable type takes json v fits (further json fits)
 
 navigation_kept : (slots held : Slots) (type : ExprType) (needed : Bool) (found : Option Data) (takes : Bool) (v : Val)
     → ((json : Data) → FitsType held false type json v → IsKept slots type v) → FitsNavigation needed found takes v (λ json. FitsType held false type json v)

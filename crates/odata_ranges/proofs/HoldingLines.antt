@@ -1,5 +1,5 @@
 -- What `in` before a list and calls evaluate to lies within the ranges that are made for them.
-use Rattle.odata_ranges.proofs.Common.{◌≡◌, inl, inr, ℕ, zero, suc, ◌<◌, ◌≤◌, ◌+◌, List, [], ◌∷◌, Bool, true, false, Some, length, slice_get, IsUtf8, refl, sym, subst, arith, IsSomeAnd, IsFourDigitYear, IsMoment, MomentParts, Date, Val, null, whole, text, date, moment, PrimitiveType, Tree, Trees, call, in_list, more_trees, no_trees, node, Any, ExprType, single, primitive, Slots, slots_of, type_name_at, HasType, IsPrimitiveValue, ComparesTrue, Eq, IsNamed, Function, expr_type, Filter, AllStand, ChildrenStand, ItemsStand, AllLie, Lies, CheckedNode, NodeKind, stands_lie, lies_nonempty, Scope, TypedEndsOnce, scope_of, ArgumentsMean, ItemMeans, some_there, CallGives, UnlessNull, has_null, CompareGives, FunctionGives, ItemsGive, After, Then, Outcome, gives, overflow, divides_by_zero, AreWithin, CalledWithin, IsSpellable, AreRangesFrom, HoldsRange, IsContextOf, MeansIn, CheckContext, IsValueWithin, IsWithin, Range, AllPlaced, Covers, CoversLine}
+use Rattle.odata_ranges.proofs.Common.{◌≡◌, inl, inr, ℕ, zero, suc, ◌<◌, ◌≤◌, ◌+◌, List, [], ◌∷◌, Bool, true, false, Some, length, slice_get, refl, sym, subst, arith, IsSomeAnd, Date, Val, null, whole, text, date, moment, PrimitiveType, Tree, Trees, call, in_list, more_trees, no_trees, node, Any, ExprType, single, primitive, Slots, slots_of, type_name_at, HasType, ComparesTrue, Eq, IsNamed, Function, expr_type, Filter, AllStand, ChildrenStand, ItemsStand, AllLie, Lies, CheckedNode, NodeKind, stands_lie, lies_nonempty, Scope, TypedEndsOnce, scope_of, ArgumentsMean, ItemMeans, some_there, CallGives, UnlessNull, has_null, CompareGives, FunctionGives, ItemsGive, After, Then, Outcome, gives, overflow, divides_by_zero, AreWithin, CalledWithin, IsSpellable, AreRangesFrom, HoldsRange, IsContextOf, MeansIn, CheckContext, IsValueWithin, IsWithin, Range, AllPlaced, Covers, CoversLine}
 use Rattle.odata_syntax.specs.Spans.{list_of_trees}
 use Rattle.odata_eval.proofs.walking.Extents.{all_further_in, further_in}
 use Rattle.odata_ranges.proofs.Forms.{StandsIn, TypedIn, holds_by, lies, stop_there, top_node, type_there, value_has}
@@ -130,22 +130,10 @@ module _ (filter : Filter) (place : ℕ) (found : CheckedNode) (at : slice_get f
 
 -- ---- calls
 
-text_spellable : (p : PrimitiveType) (s : List ℕ) → IsPrimitiveValue (text s) p → IsUtf8 s
-text_spellable PrimitiveType.String s has = has
-text_spellable _ s has = absurd has
-
-date_spellable : (p : PrimitiveType) (d : Date) → IsPrimitiveValue (date d) p → IsFourDigitYear d.year
-date_spellable PrimitiveType.Date d has = has
-date_spellable _ d has = absurd has
-
-moment_spellable : (p : PrimitiveType) (m : MomentParts) → IsPrimitiveValue (moment m) p → IsMoment m.civil m.offset_minutes
-moment_spellable PrimitiveType.DateTimeOffset m has = has
-moment_spellable _ m has = absurd has
-
 spellable : (slots : Slots) (type : ExprType) (v : Val) → HasType slots type v → IsSpellable v
-spellable slots (single (primitive p)) (text s) has = text_spellable p s has
-spellable slots (single (primitive p)) (date d) has = date_spellable p d has
-spellable slots (single (primitive p)) (moment m) has = moment_spellable p m has
+spellable slots (single (primitive PrimitiveType.String)) (text s) has = has
+spellable slots (single (primitive PrimitiveType.Date)) (date d) has = has
+spellable slots (single (primitive PrimitiveType.DateTimeOffset)) (moment m) has = has
 spellable slots _ (text s) has = absurd has
 spellable slots _ (date d) has = absurd has
 spellable slots _ (moment m) has = absurd has

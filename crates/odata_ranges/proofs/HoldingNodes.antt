@@ -1,12 +1,12 @@
 -- The nodes with two operands, by their kinds.
-use Rattle.odata_ranges.proofs.Common.{◌≡◌, inl, inr, ℕ, ℤ, ◌+◌, List, true, Some, length, slice_get, refl, sym, subst, Val, null, items, Tree, binary, literal, node, LiteralKind, ComparisonOperator, BinaryOperator, Quantifier, ExprType, SingleType, single, collection, Slots, slots_of, type_name_at, IsEquality, expr_type, EdmType, OneType, with_variable, Filter, ResolvedStands, InBody, NumberStands, SideBySide, Stands, CheckedNode, NodeKind, Lies, TypedEndsOnce, bound_over, scope_of, Means, GivesMember, members_of, HasGives, InGives, LambdaGives, MemberGives, After, Then, Outcome, gives, IsKept, HoldsRange, IsContextOf, MeansIn, CheckContext, IsValueWithin, IsWithin, Range, CoversFaults, HoldsOperator}
+use Rattle.odata_ranges.proofs.Common.{◌≡◌, inl, inr, ℕ, ℤ, ◌+◌, List, true, Some, length, slice_get, refl, sym, subst, Val, null, items, Tree, binary, literal, node, LiteralKind, ComparisonOperator, BinaryOperator, Quantifier, ExprType, SingleType, single, collection, Slots, slots_of, type_name_at, IsEquality, expr_type, EdmType, OneType, with_variable, Filter, ResolvedStands, InBody, NumberStands, Stands, CheckedNode, NodeKind, Lies, TypedEndsOnce, bound_over, scope_of, Means, GivesMember, members_of, HasGives, InGives, LambdaGives, MemberGives, After, Then, Outcome, gives, IsKept, HoldsRange, IsContextOf, MeansIn, CheckContext, IsValueWithin, IsWithin, Range, CoversFaults, HoldsOperator}
 use Rattle.edm_values.specs.Val as val
 use Rattle.odata_signatures.specs.Reads.{OfEquality, ReadsNone}
 use Rattle.odata_meaning.specs.LiteralGives.{LiteralGives}
 use Rattle.odata_ranges.proofs.Forms.{StandsIn, TypedIn, holds_by, lies, stop_there, two_parts, type_there, value_has}
 use Rattle.odata_ranges.proofs.Layouts.{stop_there as stop_lies}
 use Rattle.odata_ranges.proofs.Holding.{FaultsWithin, after_within, faults_pass}
-use Rattle.odata_ranges.proofs.HoldingTwo.{equality_within, has_within, in_within, member_faults, member_has, member_kept, quantified_within, same_member, sides_within, some_faults}
+use Rattle.odata_ranges.proofs.HoldingTwo.{equality_within, has_within, in_within, member_faults, member_has, member_kept, quantified_within, sides_within, some_faults}
 use Rattle.odata_ranges.proofs.KeptPaths.{tree_kept}
 use Rattle.odata_ranges.proofs.StandingLies.{resolved_lies}
 
@@ -50,15 +50,6 @@ module _ (types : OneType) (filter : Filter) (place : ℕ) (found first : Checke
     right_range i middle tree same stands =
         subst (λ (m : ℕ). HoldsRange filter m right)
         (stop_lies filter (scope_of context.environment) i first (subst (λ (k : ℕ). slice_get filter.list.nodes k ≡ Some first) (sym same) first_at) middle tree stands) right_holds
-
-  module _ (context : CheckContext) (is : IsContextOf filter context) (s : ℕ) (l r : Tree)
-      (two : SideBySide (λ middle. StandsIn filter (scope_of context.environment) (place + 1) middle l) (λ middle. StandsIn filter (scope_of context.environment) middle s r)) where
-    on_left : (x : Outcome) → MeansIn filter context l x → IsWithin left x
-    on_left x means = left_holds context l two.middle x is two.left means
-
-    on_right : (x : Outcome) → MeansIn filter context r x → IsWithin right x
-    on_right x means =
-        right_range context is (place + 1) two.middle l refl (lies filter (scope_of context.environment) (place + 1) two.middle l two.left) context r s x is two.right means
 
   one_node : (context : CheckContext) (s : ℕ) (tree : Tree) → StandsIn filter (scope_of context.environment) place s tree → (type : ExprType)
       → TypedIn filter (scope_of context.environment) tree type → type ≡ expr_type filter.schema found.edm_type
@@ -135,10 +126,11 @@ module _ (types : OneType) (filter : Filter) (place : ℕ) (found first : Checke
       (λ l r context is s from to o stands_there given.
       let scope = scope_of context.environment in
       let two = two_parts (λ a b. StandsIn filter scope a b l) (λ a b. StandsIn filter scope a b r) (place + 1) s stands_there.children in
-      after_within result (MeansIn filter context l) _ o (λ x m. faults_pass left result x faults.first (on_left context is s l r two x m))
-      (λ v m goes. after_within result (MeansIn filter context r) (InGives v) o (λ x k. faults_pass right result x faults.second (on_right context is s l r two x k))
-      (λ w k more. in_within result v w o
-      (λ none_there. nulls (subst (λ (u : Val). IsValueWithin right u) none_there (on_right context is s l r two (gives w) k))) more)
+      let of_range = right_range context is (place + 1) two.middle l refl (lies filter scope (place + 1) two.middle l two.left) in
+      let of_right : (x : Outcome) → MeansIn filter context r x → IsWithin right x = λ x m. of_range context r s x is two.right m in
+      after_within result (MeansIn filter context l) _ o (λ x m. faults_pass left result x faults.first (left_holds context l two.middle x is two.left m))
+      (λ v m goes. after_within result (MeansIn filter context r) (InGives v) o (λ x k. faults_pass right result x faults.second (of_right x k))
+      (λ w k more. in_within result v w o (λ none_there. nulls (subst (λ (u : Val). IsValueWithin right u) none_there (of_right (gives w) k))) more)
       goes)
       given)
 
@@ -155,7 +147,7 @@ module _ (types : OneType) (filter : Filter) (place : ℕ) (found first : Checke
   body_given ends context is quantifier s base body variable member_type (items vs) o nulls faults typed stands within means kept given =
       let slots = slots_of filter.schema in
       let root = type_name_at filter.schema filter.filtered in
-      let same : member_type ≡ given.0 = same_member member_type given.0 (types slots root (scope_of context.environment) base (collection member_type) (collection given.0) typed given.1) in
+      let same : member_type ≡ given.0 = cc (types slots root (scope_of context.environment) base (collection member_type) (collection given.0) typed given.1) in
       let has = value_has ends filter context is base (collection member_type) (items vs) typed means in
       let Body : Val → Outcome → Type 0 = λ w. Means slots root context.now context.entity (bound_over context.environment variable (single given.0) w) body in
       quantified_within result quantifier (length (members_of vs)) (MemberGives Body vs) o

@@ -1,5 +1,5 @@
 -- What nodes with one operand evaluate to lies within the ranges that are made for them.
-use Rattle.odata_ranges.proofs.Common.{◌≡◌, ℕ, ◌≤◌, ◌+◌, ℤ, pos, neg_ℤ, ◌-ℤ◌, ◌≤ℤ◌, true, false, Option, Some, Result, Err, length, slice_get, refl, sym, subst, arith, FitsSigned, w64, ints, Val, null, boolean, whole, items, Vals, no_items, item, PrimitiveType, any_item, count, negation, node, ExprType, single, collection, primitive, slots_of, type_name_at, ComesWithin, NumbersGive, ArithFault, Overflow, DivideByZero, ArithmeticOperator, IsCollection, NegationTyped, expr_type, OneType, OperandTyped, Filter, CheckedNode, NodeKind, scope_of, InType, CalculationGives, NegatedGives, AnyItemGives, CountGives, members_of, Then, Outcome, gives, NotGives, IsKept, HoldsRange, MeansIn, IsValueWithin, IsWithin, Range, HoldsArithmetic}
+use Rattle.odata_ranges.proofs.Common.{◌≡◌, ℕ, ◌≤◌, ◌+◌, ℤ, pos, neg_ℤ, ◌≤ℤ◌, true, false, Option, Some, Result, Err, length, slice_get, refl, sym, subst, arith, FitsSigned, w64, ints, Val, null, boolean, whole, items, Vals, no_items, item, PrimitiveType, any_item, count, negation, node, ExprType, single, collection, primitive, slots_of, type_name_at, ComesWithin, NumbersGive, ArithFault, Overflow, DivideByZero, ArithmeticOperator, IsCollection, NegationTyped, expr_type, OneType, OperandTyped, Filter, CheckedNode, NodeKind, scope_of, InType, CalculationGives, NegatedGives, AnyItemGives, CountGives, members_of, Then, Outcome, gives, NotGives, IsKept, HoldsRange, MeansIn, IsValueWithin, IsWithin, Range, HoldsArithmetic}
 use Rattle.odata_eval.proofs.walking.Children.{one_there}
 use Rattle.odata_ranges.proofs.Counts.{number_within}
 use Rattle.odata_ranges.proofs.Forms.{TypedIn, holds_by, type_there}
@@ -45,12 +45,9 @@ pub minus_given : (type : ExprType) (w : Val) (o : Outcome) → NegatedGives typ
 minus_given type null o given = given
 minus_given (single (primitive p)) (whole a) o given = (given.0, numbers given.0 given.1, given.2)
   where
-    difference : neg_ℤ a ≡ pos 0 -ℤ a
-    difference = omega (arith, ints)
-
     numbers : (answer : Result (Option ℤ) ArithFault) → ComesWithin p (neg_ℤ a) answer → NumbersGive ArithmeticOperator.Sub p (pos 0) a answer
     numbers (Err DivideByZero) comes = let other : DivideByZero ≡ Overflow = comes.0 in absurd (cc)
-    numbers _ comes = (neg_ℤ a, difference, comes)
+    numbers _ comes = (neg_ℤ a, omega (arith, ints), comes)
 minus_given _ _ o given = absurd given
 
 module _ (types : OneType) (filter : Filter) (place : ℕ) (found : CheckedNode) (at : slice_get filter.list.nodes place ≡ Some found) (operand result : Range)

@@ -1,5 +1,5 @@
 -- What nodes with two operands evaluate to lies within the ranges that are made for them.
-use Rattle.odata_ranges.proofs.Common.{◌≡◌, inl, inr, ℕ, zero, suc, ℤ, Bool, true, false, Option, Some, None, length, slice_get, refl, sym, subst, IsSomeAnd, Val, null, boolean, items, Vals, no_items, item, BinaryOperator, Quantifier, Any, All, ExprType, SingleType, single, collection, Slots, AllHaveType, HasType, ComparesTrue, ComparisonOperator, Eq, IsEquality, expr_type, Filter, CheckedNode, OperatorGives, InType, SidesGive, GivesMember, CalculationGives, members_of, CompareGives, GivesTruth, HasGives, InGives, MemberGives, After, Outcome, gives, LogicalGives, JoinGives, joined, truth_val, AreKept, IsKept, IsValueWithin, IsWithin, Range, CoversFaults, CoversNulls, HoldsOperator}
+use Rattle.odata_ranges.proofs.Common.{◌≡◌, inl, inr, ℕ, zero, suc, ℤ, Bool, true, false, Option, Some, None, length, slice_get, refl, sym, subst, IsSomeAnd, Val, null, boolean, items, Vals, no_items, item, BinaryOperator, Quantifier, Any, All, ExprType, SingleType, single, Slots, AllHaveType, HasType, ComparesTrue, ComparisonOperator, Eq, IsEquality, expr_type, Filter, CheckedNode, OperatorGives, InType, SidesGive, GivesMember, CalculationGives, members_of, CompareGives, GivesTruth, HasGives, InGives, MemberGives, After, Outcome, gives, LogicalGives, JoinGives, joined, truth_val, AreKept, IsKept, IsValueWithin, IsWithin, Range, CoversFaults, CoversNulls, HoldsOperator}
 use Rattle.edm_values.specs.Val as val
 use Rattle.odata_functions.specs.Bits.{HasBits}
 use Rattle.odata_syntax.specs.declared.binary_operator.LogicalOperator.{LogicalOperator}
@@ -157,6 +157,3 @@ pub member_has : (slots : Slots) (type : SingleType) (vs : Vals) (k : ℕ) (v : 
 member_has slots type no_items k v typed found = absurd (cc)
 member_has slots type (item w more) zero v typed found = let same : w ≡ v = cc in subst (HasType slots (single type)) same typed.0
 member_has slots type (item w more) (suc k) v typed found = member_has slots type more k v typed.1 found
-
-pub same_member : (a b : SingleType) → collection a ≡ collection b → a ≡ b
-same_member a b is = cc

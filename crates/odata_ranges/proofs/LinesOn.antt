@@ -15,9 +15,6 @@ IsOnward filter ranges flags from stop at =
 covers_also : (wider middle range : Range) → Covers wider middle → Covers middle range → Covers wider range
 covers_also wider middle range first second = record { fault = λ may. first.fault (second.fault may); null = λ may. first.null (second.null may) }
 
-covers_itself : (range : Range) → Covers range range
-covers_itself range = record { fault = λ may. may; null = λ may. may }
-
 pub begins_onward : (filter : Filter) (ranges : List Range) (flags : Range) (from stop : ℕ) → IsOnward filter ranges flags from stop from
 begins_onward filter ranges flags from stop = λ scope trees stand. record { rest = trees; stand = stand; covers = λ wider covers placed. placed }
 
@@ -64,7 +61,7 @@ none_left filter ranges flags scope at stop (more_trees tree more) stand past =
 pub ends_onward : (filter : Filter) (ranges : List Range) (flags : Range) (from stop at : ℕ) → IsOnward filter ranges flags from stop at → stop ≤ at → CoversLine filter ranges flags from stop
 ends_onward filter ranges flags from stop at onward past = λ scope trees stand.
     let left = onward scope trees stand in
-    left.covers flags (covers_itself flags) (none_left filter ranges flags scope at stop left.rest left.stand past)
+    left.covers flags (record { fault = λ may. may; null = λ may. may }) (none_left filter ranges flags scope at stop left.rest left.stand past)
 
 -- where one of them stands is a node
 pub rest_inside : (filter : Filter) (scope : Scope) (at stop : ℕ) → at < stop → (rest : Trees) → AllLie filter.schema filter.filtered scope filter.list at stop rest → at < length filter.list.nodes

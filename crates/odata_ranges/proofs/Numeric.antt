@@ -1,5 +1,5 @@
 -- Arithmetic is in a number type, or in that of null.
-use Rattle.odata_ranges.proofs.Common.{◌≡◌, inl, inr, ℕ, Bool, true, false, cond, ◌||◌, Option, Some, None, slice_get, sym, subst, IfSome, IsNumberType, PrimitiveType, Int16, Int32, Int64, ExprType, single, primitive, SchemaModel, is_int32, is_int64, negation_type, promotion, wider_type, number_or_null, OperatorByTypes, IsEquality, expr_type, EdmType, ValueType, BinaryOperator, Arithmetic, ComparisonOperator, binary, negation, node, Filter, IsFilter, CheckedNode, NodeKind, IsNumericIn, IsNumeric}
+use Rattle.odata_ranges.proofs.Common.{◌≡◌, inl, inr, ℕ, Bool, true, false, cond, ◌||◌, Option, Some, None, slice_get, subst, IfSome, IsNumberType, PrimitiveType, Int16, Int32, Int64, ExprType, SchemaModel, is_int32, is_int64, negation_type, promotion, wider_type, number_or_null, OperatorByTypes, IsEquality, expr_type, EdmType, ValueType, BinaryOperator, Arithmetic, ComparisonOperator, binary, negation, node, Filter, IsFilter, CheckedNode, NodeKind, IsNumericIn, IsNumeric}
 use Rattle.odata_ranges.proofs.Layouts.{by_node, type_there}
 
 chosen : (a b : Bool) → IsNumberType (cond a Int64 (cond b Int32 Int16))
@@ -12,20 +12,16 @@ wider_number left right = chosen (is_int64 left || is_int64 right) (is_int32 lef
 
 pub promoted : (left right : Option PrimitiveType) → IfSome (promotion left right) IsNumberType
 promoted None None = tt
-promoted None (Some right) = wider_number None (Some right)
-promoted (Some left) right = wider_number (Some left) right
+promoted left right = wider_number left right
 
 pub negated : (number : Option PrimitiveType) → IfSome (negation_type number) IsNumberType
 negated None = tt
 negated (Some p) = promoted (Some p) (Some Int16)
 
-same_prim : (p q : PrimitiveType) → single (primitive p) ≡ single (primitive q) → p ≡ q
-same_prim p q is = cc
-
 numeric : (schema : SchemaModel) (type : EdmType) (number : Option PrimitiveType) → IfSome number IsNumberType → expr_type schema type ≡ number_or_null number → IsNumeric type
 numeric schema EdmType.Null number is same = tt
 numeric schema (EdmType.Single (ValueType.Prim p)) None is same = absurd (cc)
-numeric schema (EdmType.Single (ValueType.Prim p)) (Some q) is same = subst IsNumberType (sym (same_prim p q same)) is
+numeric schema (EdmType.Single (ValueType.Prim p)) (Some q) is same = let number : q ≡ p = cc in subst IsNumberType number is
 numeric schema (EdmType.Collection s) None is same = absurd (cc)
 numeric schema _ (Some q) is same = absurd (cc)
 numeric schema (EdmType.Single _) None is same = absurd (cc)

@@ -44,18 +44,12 @@ module _ (filter : Filter) (is : IsFilter filter) (place : ℕ) (found : Checked
         let owner = step_owner there.scope there.stop slot there.part step in
         (owner.id, owner.type_is)
 
-    same_id : (a b : ℕ) → EdmType.Single (ValueType.Structured a) ≡ EdmType.Single (ValueType.Structured b) → a ≡ b
-    same_id a b e = cc
-
-    same_slot : (a b : ℕ) → NodeKind.Member a ≡ NodeKind.Member b → a ≡ b
-    same_slot a b e = cc
-
     pub step_owned : (slot id : ℕ) → found.kind ≡ NodeKind.Member slot → behind.edm_type ≡ EdmType.Single (ValueType.Structured id) → IsOwnerAt filter place id
     step_owned slot id kind_is type_is = record {
       of_tree = λ scope stop tree stands.
           let step = step_there filter.schema filter.filtered scope filter.list place stop slot tree found (lies filter scope place stop tree stands) at kind_is in
           let owner = step_owner scope stop slot tree step in
-          let same : owner.id ≡ id = same_id owner.id id (sym owner.type_is ∙ type_is) in
+          let same : owner.id ≡ id = cc (owner.type_is, type_is) in
           subst (λ (t : Tree). BelongsTo (slots_of filter.schema) (type_name_at filter.schema filter.filtered) scope t (type_name_at filter.schema id)) (sym step.is)
           (subst (λ (name : List ℕ). Typed (slots_of filter.schema) (type_name_at filter.schema filter.filtered) scope step.base (single (structured name)))
           (owner.owner_is ∙ ap (type_name_at filter.schema) same) step.base_typed);
@@ -64,19 +58,16 @@ module _ (filter : Filter) (is : IsFilter filter) (place : ℕ) (found : Checked
           elim names [
             | inl property ↦ (let apart : NodeKind.Property k ≡ NodeKind.Member slot = sym property ∙ ap (λ (f : CheckedNode). f.kind) here ∙ kind_is in absurd (cc))
             | inr member_is ↦ (
-                let same : k ≡ slot = same_slot k slot (sym member_is ∙ ap (λ (f : CheckedNode). f.kind) here ∙ kind_is) in
+                let same : k ≡ slot = cc (member_is, ap (λ (f : CheckedNode). f.kind) here, kind_is) in
                 let there = numbered filter place found is at in
                 let step = step_there filter.schema filter.filtered there.scope filter.list place there.stop slot there.part found there.stands at kind_is in
                 let owner = step_owner there.scope there.stop slot there.part step in
-                let same_owner : owner.id ≡ id = same_id owner.id id (sym owner.type_is ∙ type_is) in
+                let same_owner : owner.id ≡ id = cc (owner.type_is, type_is) in
                 subst (λ (n : ℕ). n < length (properties_at filter.schema id)) (sym same)
                 (subst (λ (n : ℕ). slot < length (properties_at filter.schema n)) same_owner owner.slot_in)
                 )
           ];
     }
-
-  same_property : (a b : ℕ) → NodeKind.Property a ≡ NodeKind.Property b → a ≡ b
-  same_property a b e = cc
 
   pub property_owned : (slot : ℕ) → found.kind ≡ NodeKind.Property slot → IsOwnerAt filter place filter.filtered
   property_owned slot kind_is = record {
@@ -87,7 +78,7 @@ module _ (filter : Filter) (is : IsFilter filter) (place : ℕ) (found : Checked
         let here : other ≡ found = same_found (slice_get filter.list.nodes place) other found other_at at in
         elim names [
           | inl property ↦ (
-              let same : k ≡ slot = same_property k slot (sym property ∙ ap (λ (f : CheckedNode). f.kind) here ∙ kind_is) in
+              let same : k ≡ slot = cc (property, ap (λ (f : CheckedNode). f.kind) here, kind_is) in
               subst (λ (n : ℕ). n < length (properties_at filter.schema filter.filtered)) (sym same) (property_slot slot kind_is)
               )
           | inr member_is ↦ (let apart : NodeKind.Member k ≡ NodeKind.Property slot = sym member_is ∙ ap (λ (f : CheckedNode). f.kind) here ∙ kind_is in absurd (cc))

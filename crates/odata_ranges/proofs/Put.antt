@@ -1,5 +1,5 @@
 -- Ranges put one before another.
-use Rattle.odata_ranges.proofs.Common.{◌≡◌, ◌∙◌, ◌⊎◌, ◌<◌, ◌≤◌, ◌+◌, inl, inr, ℕ, zero, suc, List, [], ◌∷◌, Some, length, slice_get, slice_set, refl, sym, subst, arith, slice_get_within, Filter, CheckedNode, AreQuiet, AreReportedFrom, ReportsFaults, AreRangesFrom, IsRangeAt, Range}
+use Rattle.odata_ranges.proofs.Common.{◌≡◌, ◌∙◌, ◌⊎◌, ◌<◌, ◌≤◌, ◌+◌, inl, inr, ℕ, zero, suc, List, [], ◌∷◌, Some, length, slice_get, slice_set, refl, sym, subst, arith, slice_get_within, Filter, CheckedNode, AreReportedFrom, ReportsFaults, AreRangesFrom, IsRangeAt, Range}
 use Rattle.odata_ranges.proofs.Values.{before_or_past}
 
 put_there : (xs : List Range) (k : ℕ) (x y : Range) → slice_get (slice_set xs k x) k ≡ Some y → x ≡ y
@@ -33,17 +33,11 @@ none_after filter ranges place past = λ k range from found. let within = slice_
 
 -- ---- what they report of faults
 
-quiet_beside : (xs : List Range) (k : ℕ) (x : Range) (from stop : ℕ) → k < from → AreQuiet xs from stop → AreQuiet (slice_set xs k x) from stop
-quiet_beside xs k x from stop before quiet = λ place range after within found. quiet place range after within (sym (get_beside xs k place x (omega (arith, before, after))) ∙ found)
-
-quiet_still : (xs : List Range) (k : ℕ) (x : Range) (from stop : ℕ) → k < from → AreQuiet (slice_set xs k x) from stop → AreQuiet xs from stop
-quiet_still xs k x from stop before quiet = λ place range after within found. quiet place range after within (get_beside xs k place x (omega (arith, before, after)) ∙ found)
-
 reported_beside : (xs : List Range) (k : ℕ) (x : Range) (place : ℕ) (node : CheckedNode) (range : Range) → k ≤ place → ReportsFaults xs place node range
     → ReportsFaults (slice_set xs k x) place node range
 reported_beside xs k x place node range before reported = record {
-  inherits = λ none. quiet_beside xs k x (place + 1) node.stop (omega (arith, before)) (reported.inherits none);
-  owns = λ makes quiet. reported.owns makes (quiet_still xs k x (place + 1) node.stop (omega (arith, before)) quiet);
+  inherits = λ none n other after within found. reported.inherits none n other after within (sym (get_beside xs k n x (omega (arith, before, after))) ∙ found);
+  owns = λ makes quiet. reported.owns makes (λ n other after within found. quiet n other after within (get_beside xs k n x (omega (arith, before, after)) ∙ found));
   entity = reported.entity;
 }
 

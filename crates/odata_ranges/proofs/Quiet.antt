@@ -5,9 +5,6 @@ use Rattle.odata_ranges.proofs.Inside.{two_inside}
 use Rattle.odata_ranges.proofs.Put.{at_or_after}
 use Rattle.odata_ranges.proofs.Values.{before_or_past}
 
-pub none_yet : (ranges : List Range) (from : ℕ) → AreQuiet ranges from from
-none_yet ranges from = λ place range after before found. absurd (omega (arith, after, before))
-
 -- before a node, there, and after it
 pub quiet_on : (ranges : List Range) (from at stop : ℕ) (range : Range) → AreQuiet ranges from at → slice_get ranges at ≡ Some range → range.may_fault ≡ false
     → AreQuiet ranges (at + 1) stop → AreQuiet ranges from stop

@@ -21,14 +21,11 @@ IsQuietExpr (single (primitive p)) = ⊥
 IsQuietExpr type = Unit {0}
 
 expr_quiet : (schema : SchemaModel) (type : EdmType) → IsQuietType type → IsQuietExpr (expr_type schema type)
-expr_quiet schema EdmType.Null is = tt
-expr_quiet schema (EdmType.Collection kept) is = tt
-expr_quiet schema (EdmType.Single (ValueType.Enum id)) is = tt
-expr_quiet schema (EdmType.Single (ValueType.Structured id)) is = tt
 expr_quiet schema (EdmType.Single (ValueType.Prim PrimitiveType.Date)) is = tt
 expr_quiet schema (EdmType.Single (ValueType.Prim PrimitiveType.DateTimeOffset)) is = tt
 expr_quiet schema (EdmType.Single (ValueType.Prim PrimitiveType.Guid)) is = tt
 expr_quiet schema (EdmType.Single (ValueType.Prim _)) is = absurd is
+expr_quiet schema _ is = tt
 
 number_loud : (p : PrimitiveType) → IsNumberType p → IsQuietExpr (single (primitive p)) → ⊥
 number_loud PrimitiveType.Date is quiet = absurd is

@@ -1,8 +1,8 @@
 -- What stands at an index of a filter's list: a tree, or a text that is read as the number of an enumeration.
-use Rattle.odata_ranges.proofs.Common.{◌≡◌, ◌∙◌, ◌⊎◌, inl, inr, ap, subst, ℕ, ℤ, ◌<◌, ◌≤◌, ◌+◌, List, [], Some, length, slice_get, arith, slice_get_within, Value, ExprType, single, SchemaModel, slots_of, type_name_at, Shape, Tree, Trees, any_item, binary, call, count, has, in_list, in_path, lambda, literal, logical_not, member, more_trees, negation, no_trees, node, LiteralKind, Scope, Typed, with_variable, Filter, IsFilter, tree_of_filter, FlatTree, AllStand, ResolvedStands, ChildrenStand, HasValue, IsLiteralNode, ItemsStand, NumberStands, Stands, CheckedNode, NodeKind, body_stands, IsOther, one_kind, some_there, there_found}
+use Rattle.odata_ranges.proofs.Common.{◌≡◌, ◌∙◌, ◌⊎◌, inl, inr, ap, subst, ℕ, ℤ, ◌<◌, ◌≤◌, ◌+◌, List, [], Some, length, slice_get, arith, slice_get_within, Value, ExprType, single, SchemaModel, slots_of, type_name_at, Shape, Tree, Trees, any_item, binary, call, count, has, in_list, in_path, lambda, literal, logical_not, member, more_trees, negation, no_trees, node, LiteralKind, Scope, Typed, with_variable, Filter, IsFilter, tree_of_filter, FlatTree, ResolvedStands, HasValue, IsLiteralNode, NumberStands, Stands, CheckedNode, NodeKind, IsOther, one_kind, some_there, there_found, ◌∷◌}
 use Rattle.odata_eval.specs.private.Place.{HasKind}
-use Rattle.odata_eval.proofs.walking.Children.{one_there}
 use Rattle.odata_ranges.proofs.Values.{before_or_past}
+use Rattle.odata_checked_filter.specs.Stands.{InLine, child_parts, item_parts, tree_parts}
 
 -- ---- a text that is read
 
@@ -69,65 +69,55 @@ module _ (schema : SchemaModel) (n : ℕ) (list : FlatTree) (p : ℕ) where
       let same : i ≡ p = omega (arith, low, high) in
       subst (λ (k : ℕ). SomethingAt schema n list k) same (record { scope = scope; stop = j; part = tree; stands = inl stands })
 
-  nothing : (i j : ℕ) → i ≡ j → i ≤ p → p < j → SomethingAt schema n list p
-  nothing i j same low high = absurd (omega (arith, same, low, high))
+  -- one of some parts one after another, where something stands at an index of each
+  abbrev EachPart : List (ℕ → ℕ → Type 0) → Type 0
+  EachPart [] = Unit {0}
+  EachPart (Part ∷ parts) = ((a b : ℕ) → Part a b → a ≤ p → p < b → SomethingAt schema n list p) × EachPart parts
+
+  in_line : (parts : List (ℕ → ℕ → Type 0)) (i j : ℕ) → InLine parts i j → i ≤ p → p < j → EachPart parts → SomethingAt schema n list p
+  in_line [] i j same low high each = absurd (omega (arith, same, low, high))
+  in_line (Part ∷ parts) i j stand low high each =
+      before_or_past p stand.middle (λ before. each.0 i stand.middle stand.left low before) (λ after. in_line parts stand.middle j stand.right after high each.1)
 
   mutual
     pub something_at : (scope : Scope) (i j : ℕ) (tree : Tree) → Stands schema n scope list i j tree → i ≤ p → p < j → SomethingAt schema n list p
     something_at scope i j (node from to shape) stands low high =
-        before_or_past i p (λ after. in_children scope (i + 1) j shape stands.children (omega (arith, after)) high)
+        before_or_past i p (λ after. in_line (child_parts schema n scope list shape) (i + 1) j stands.children (omega (arith, after)) high (each_child scope shape))
         (λ before. at_top scope i j (node from to shape) stands low before)
 
-    in_children : (scope : Scope) (i j : ℕ) (shape : Shape) → ChildrenStand schema n scope list i j shape → i ≤ p → p < j → SomethingAt schema n list p
-    in_children scope i j (member base asked) stand low high = something_at scope i j base (one_there schema n scope list i j base stand) low high
-    in_children scope i j (count base) stand low high = something_at scope i j base (one_there schema n scope list i j base stand) low high
-    in_children scope i j (negation operand) stand low high = something_at scope i j operand (one_there schema n scope list i j operand stand) low high
-    in_children scope i j (logical_not operand) stand low high = something_at scope i j operand (one_there schema n scope list i j operand stand) low high
-    in_children scope i j (any_item base) stand low high = something_at scope i j base (one_there schema n scope list i j base stand) low high
-    in_children scope i j (binary operator left right) stand low high =
-        let m : ℕ = stand.middle in
-        let k : ℕ = stand.right.middle in
-        let ends : k ≡ j = stand.right.right in
-        let within : p < k = omega (arith, ends, high) in
-        before_or_past p m (λ before. in_side scope i m left _ (λ (s : Stands schema n scope list i m left). something_at scope i m left s low before) stand.left low before)
-        (λ after. in_side scope m k right _ (λ (s : Stands schema n scope list m k right). something_at scope m k right s after within) stand.right.left after within)
-    in_children scope i j (has left right) stand low high =
-        let m : ℕ = stand.middle in
-        let k : ℕ = stand.right.middle in
-        let ends : k ≡ j = stand.right.right in
-        let within : p < k = omega (arith, ends, high) in
-        before_or_past p m (λ before. something_at scope i m left stand.left low before)
-        (λ after. in_side scope m k right _ (λ (s : Stands schema n scope list m k right). something_at scope m k right s after within) stand.right.left after within)
-    in_children scope i j (in_list left items) stand low high =
-        let m : ℕ = stand.middle in
-        before_or_past p m (λ before. something_at scope i m left stand.left low before)
-        (λ after. in_items scope left m j items stand.right after high)
-    in_children scope i j (in_path left path) stand low high =
-        let m : ℕ = stand.middle in
-        before_or_past p m (λ before. something_at scope i m left stand.left low before)
-        (λ after. something_at scope m j path (one_there schema n scope list m j path stand.right) after high)
-    in_children scope i j (call asked arguments) stand low high = in_trees scope i j arguments stand low high
-    in_children scope i j (lambda quantifier base variable body) stand low high =
-        let m : ℕ = stand.middle in
-        let inner = body_stands schema n scope list m j base variable body stand.right in
-        before_or_past p m (λ before. something_at scope i m base stand.left low before)
-        (λ after. something_at (with_variable scope variable (single inner.member_type)) m j body inner.body after high)
-    in_children scope i j _ stand low high = nothing i j stand low high
+    each_child : (scope : Scope) (shape : Shape) → EachPart (child_parts schema n scope list shape)
+    each_child scope (member base asked) = (λ a b. something_at scope a b base, tt)
+    each_child scope (count base) = (λ a b. something_at scope a b base, tt)
+    each_child scope (negation operand) = (λ a b. something_at scope a b operand, tt)
+    each_child scope (logical_not operand) = (λ a b. something_at scope a b operand, tt)
+    each_child scope (any_item base) = (λ a b. something_at scope a b base, tt)
+    each_child scope (binary operator left right) = (
+      λ a b side low high. in_side scope a b left _ (λ (s : Stands schema n scope list a b left). something_at scope a b left s low high) side low high,
+      (λ a b side low high. in_side scope a b right _ (λ (s : Stands schema n scope list a b right). something_at scope a b right s low high) side low high, tt),
+    )
+    each_child scope (has left right) = (
+      λ a b. something_at scope a b left,
+      (λ a b side low high. in_side scope a b right _ (λ (s : Stands schema n scope list a b right). something_at scope a b right s low high) side low high, tt),
+    )
+    each_child scope (in_list left items) = (λ a b. something_at scope a b left, each_item scope left items)
+    each_child scope (in_path left path) = (λ a b. something_at scope a b left, (λ a b. something_at scope a b path, tt))
+    each_child scope (call asked arguments) = each_tree scope arguments
+    each_child scope (lambda quantifier base variable body) = (
+      λ a b. something_at scope a b base,
+      (λ a b inner. something_at (with_variable scope variable (single inner.member_type)) a b body inner.body, tt),
+    )
+    each_child scope _ = tt
 
-    in_trees : (scope : Scope) (i j : ℕ) (trees : Trees) → AllStand schema n scope list i j trees → i ≤ p → p < j → SomethingAt schema n list p
-    in_trees scope i j no_trees stand low high = nothing i j stand low high
-    in_trees scope i j (more_trees tree trees) stand low high =
-        let m : ℕ = stand.middle in
-        before_or_past p m (λ before. something_at scope i m tree stand.left low before) (λ after. in_trees scope m j trees stand.right after high)
+    each_tree : (scope : Scope) (trees : Trees) → EachPart (tree_parts schema n scope list trees)
+    each_tree scope no_trees = tt
+    each_tree scope (more_trees tree trees) = (λ a b. something_at scope a b tree, each_tree scope trees)
 
-    -- beside the tree on the left
-    in_items : (scope : Scope) (left : Tree) (i j : ℕ) (items : Trees) → ItemsStand schema n scope list (Typed (slots_of schema) (type_name_at schema n) scope left) i j items → i ≤ p → p < j
-        → SomethingAt schema n list p
-    in_items scope left i j no_trees stand low high = nothing i j stand low high
-    in_items scope left i j (more_trees tree trees) stand low high =
-        let m : ℕ = stand.middle in
-        before_or_past p m (λ before. in_side scope i m tree (Typed (slots_of schema) (type_name_at schema n) scope left) (λ (s : Stands schema n scope list i m tree). something_at scope i m tree s low before) stand.left low before)
-        (λ after. in_items scope left m j trees stand.right after high)
+    each_item : (scope : Scope) (left : Tree) (items : Trees) → EachPart (item_parts schema n scope list (Typed (slots_of schema) (type_name_at schema n) scope left) items)
+    each_item scope left no_trees = tt
+    each_item scope left (more_trees tree trees) = (
+      λ a b side low high. in_side scope a b tree _ (λ (s : Stands schema n scope list a b tree). something_at scope a b tree s low high) side low high,
+      each_item scope left trees,
+    )
 
 pub something_there : (filter : Filter) → IsFilter filter → (place : ℕ) → place < length filter.list.nodes → SomethingAt filter.schema filter.filtered filter.list place
 something_there filter right place within =

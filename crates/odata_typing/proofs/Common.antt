@@ -18,7 +18,7 @@ pub use Rattle.odata_signatures.specs.TypeView.{expr_type, single_type}
 pub use Rattle.odata_signatures.specs.Typed.{AreTyped, BindsVariable, IsTyped, IsUntyped, NameTyped, OperandTyped, OperandsTyped, PropertyTyped, Scope, StepTyped, Typed, named_type, property_named, variable_type, with_variable}
 pub use Rattle.odata_signatures.specs.declared.refusal.TypeFault.{TypeFault}
 pub use Rattle.odata_syntax.specs.Places.{AreBefore, ArePlaces, AreSideBySide, BeginsBody, IsPlaced, first_at, first_over, lambda_at, lambda_of, nodes_before, number_at, places_of, roots_back, stop_at}
-pub use Rattle.odata_syntax.specs.PostOrder.{AreFedBack, IsWholeTree, Texts, child_count, last_tree, last_trees, shape_over, tree_count_back, trees_back, trees_before, trees_left, trees_with}
+pub use Rattle.odata_syntax.specs.PostOrder.{AreFedBack, IsWholeTree, Texts, child_count, last_tree, last_trees, shape_over, tree_count_back, trees_back, trees_before, trees_in, trees_left, trees_with}
 pub use Rattle.odata_syntax.specs.Spans.{IsWithin, children_of, in_child, is_root, list_of_trees}
 pub use Rattle.odata_syntax.specs.TextTree.{HasNoTree, HasText, IsFirstFault, IsTextRange, listed_tree, text_in}
 pub use Rattle.odata_syntax.specs.Tree.{Shape, Tree, call, in_list, it, lambda, literal, name, node, shape_of, start_of, stop_of, trees_of_list}
@@ -38,4 +38,4 @@ pub use Rattle.odata_typing.specs.private.Walks.{IsNumberPut, IsReadPut, checked
 pub use Rattle.std.proofs.Common.{Bool, Bor, Err, FitsSigned, IfErr, IfNone, IfOk, IfSome, IsSomeAnd, IsTrue, List, MatchOption, None, Ok, Option, Result, Some, SomeIff, [], ap, arith, drop, false, get_or, inl, inr, length, length-append, length-drop, length-set, length-take, map, position, refl, replicate, reverse, rules, slice_get, slice_set, subst, suc, sym, take, true, zero, ℕ, ℤ, ◌++◌, ◌+◌, ◌-◌, ◌<◌, ◌↔◌, ◌∙◌, ◌∷◌, ◌≡◌, ◌≢◌, ◌≤◌, ◌⊎◌}
 pub use Rattle.std.proofs.lemmas.List.{append_assoc, append_cancel_right, drop-append-le, drop-drop, drop-take, get_or-drop, length-map, length-replicate, length-reverse, length-take-le, map-append, nil_from_length, reverse-append, reverse-reverse, take-append-drop, take-append-le, take-take, take_all, take_at, take_more, take_more_set}
 pub use Rattle.std.proofs.lemmas.Option.{get_or_from_slice_get, none-some, same_Some, slice_get-get_or, slice_get-map, slice_get_cases, slice_get_past, slice_get_within}
-pub use Rattle.std.specs.List.{AllByRecursion, Contains, position_or_len}
+pub use Rattle.std.specs.List.{AllByRecursion, Contains, position_or_len, slice_range}

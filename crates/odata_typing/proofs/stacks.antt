@@ -14,6 +14,5 @@ pub mod Runs
 pub mod Contexts
 pub mod Slices
 pub mod Stacks
-pub mod Steps
 pub mod TreeRuns
 pub mod Walking

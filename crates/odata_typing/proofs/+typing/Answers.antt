@@ -13,8 +13,7 @@ use Rattle.odata_typing.proofs.stacks.Again.{judged_again, ready_again}
 use Rattle.odata_typing.proofs.stacks.Bound.{body_places, fresh_variable, judged_since, over_body, scope_is}
 use Rattle.odata_typing.proofs.stacks.Loop.{lambda_there, mark_at, none_read}
 use Rattle.odata_typing.proofs.stacks.Contexts.{node_ready}
-use Rattle.odata_typing.proofs.stacks.Steps.{node_step, step_goes_on, step_refuses}
-use Rattle.odata_typing.proofs.stacks.Walking.{IsWalking, node_children, node_is_plain, ready_still, run_trees, walk_ends}
+use Rattle.odata_typing.proofs.stacks.Walking.{IsWalking, node_children, node_is_plain, node_step, ready_still, run_trees, step_goes_on, step_refuses, walk_ends}
 use Rattle.odata_typing.proofs.+typing.Goals.{node_walk::checked_nodes-else-lambda-ne-NO_NODE-via-then-lambda-ne-NO_NODE+else-index-from, node_walk::checked_nodes-else-lambda-ne-NO_NODE-via-else-lambda-ne-NO_NODE}
 use Rattle.odata_typing.proofs.+typing.Goals as goal
 
@@ -127,8 +126,7 @@ node_walk::checked_nodes-returns-then-not-checked_lambda t c =
     let last = mark_at context index in
     let there = lambda_there context c.args.from c.args.stop index c.args.walk.now c.loop-index.walk c.requires.context c.requires.ready c.requires.run c.loop-index.invariant
     c.loop-index-test.true c.if-index-from.true c.if-lambda-ne-NO_NODE.true in
-    step_refuses c.laws_below.ensures context c.args.from c.args.stop index last c.args.walk.now c.loop-index.walk c.checked_lambda.new.walk there.judged _
-    c.requires.context c.requires.run c.loop-index.invariant there.step
+    step_refuses c.laws_below.ensures context c.args.from c.args.stop last c.loop-index.walk there.judged _ c.requires.context c.requires.run there.step c.checked_lambda.new.walk
     (c.if-not-checked_lambda.ensures there.judged there.quantifier (last_tree (run_trees context c.args.from index)) there.ready)
 
 pub node_walk::checked_nodes-overflow_add-index : goal.node_walk::checked_nodes-overflow_add-index
@@ -159,8 +157,8 @@ node_walk::checked_nodes-loop-index-preserved-then-index-from t c =
     let last = mark_at context index in
     let there = lambda_there context c.args.from c.args.stop index c.args.walk.now c.loop-index.walk c.requires.context c.requires.ready c.requires.run c.loop-index.invariant
     c.loop-index-test.true c.if-index-from.true c.if-lambda-ne-NO_NODE.true in
-    step_goes_on c.laws_below.ensures context c.args.from c.args.stop index last c.args.walk.now c.loop-index.walk c.checked_lambda.new.walk there.judged _
-    c.requires.context c.requires.run c.loop-index.invariant there.step
+    step_goes_on c.laws_below.ensures context c.args.from c.args.stop last c.loop-index.walk there.judged _ c.requires.context c.requires.run there.step
+    index c.args.walk.now c.checked_lambda.new.walk c.loop-index.invariant
     (c.if-not-checked_lambda.ensures there.judged there.quantifier (last_tree (run_trees context c.args.from index)) there.ready)
 
 -- The loop: any other node.
@@ -197,9 +195,9 @@ node_walk::checked_nodes-returns-then-not-checked_node t c =
       | node_walk::checked_nodes-else-lambda-ne-NO_NODE-via-else-lambda-ne-NO_NODE w ↦ inl (none_read context c.args.from c.args.stop index c.requires.context c.requires.run before w.if-lambda-ne-NO_NODE.false)
     ] in
     let children = node_children context c.args.from c.args.stop index c.args.walk.now c.loop-index.walk c.requires.context c.requires.run c.loop-index.invariant before c.node_at.result c.node_at.ensures in
-    step_refuses c.laws_below.ensures context c.args.from c.args.stop index index c.args.walk.now c.loop-index.walk c.checked_node.new.walk c.node_at.result _
-    c.requires.context c.requires.run c.loop-index.invariant
-    (node_step context c.args.from c.args.stop index c.args.walk.now c.loop-index.walk c.node_at.result c.requires.context c.requires.run c.loop-index.invariant before c.node_at.ensures unmarked)
+    step_refuses c.laws_below.ensures context c.args.from c.args.stop index c.loop-index.walk c.node_at.result _ c.requires.context c.requires.run
+    (node_step context c.args.from c.args.stop index c.args.walk.now c.loop-index.walk c.requires.context c.requires.run c.loop-index.invariant before c.node_at.result c.node_at.ensures unmarked)
+    c.checked_node.new.walk
     (c.if-not-checked_node.ensures (run_trees context c.args.from index) children)
 
 pub node_walk::checked_nodes-loop-index-preserved : goal.node_walk::checked_nodes-loop-index-preserved
@@ -212,9 +210,9 @@ node_walk::checked_nodes-loop-index-preserved t c =
       | node_walk::checked_nodes-else-lambda-ne-NO_NODE-via-else-lambda-ne-NO_NODE w ↦ inl (none_read context c.args.from c.args.stop index c.requires.context c.requires.run before w.if-lambda-ne-NO_NODE.false)
     ] in
     let children = node_children context c.args.from c.args.stop index c.args.walk.now c.loop-index.walk c.requires.context c.requires.run c.loop-index.invariant before c.node_at.result c.node_at.ensures in
-    step_goes_on c.laws_below.ensures context c.args.from c.args.stop index index c.args.walk.now c.loop-index.walk c.checked_node.new.walk c.node_at.result _
-    c.requires.context c.requires.run c.loop-index.invariant
-    (node_step context c.args.from c.args.stop index c.args.walk.now c.loop-index.walk c.node_at.result c.requires.context c.requires.run c.loop-index.invariant before c.node_at.ensures unmarked)
+    step_goes_on c.laws_below.ensures context c.args.from c.args.stop index c.loop-index.walk c.node_at.result _ c.requires.context c.requires.run
+    (node_step context c.args.from c.args.stop index c.args.walk.now c.loop-index.walk c.requires.context c.requires.run c.loop-index.invariant before c.node_at.result c.node_at.ensures unmarked)
+    index c.args.walk.now c.checked_node.new.walk c.loop-index.invariant
     (c.if-not-checked_node.ensures (run_trees context c.args.from index) children)
 
 -- The end.

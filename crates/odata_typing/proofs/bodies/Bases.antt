@@ -1,9 +1,9 @@
 -- Why a lambda operator over its base has no type, and the fault of its body.
-use Rattle.odata_typing.proofs.Common.{◌≡◌, sym, subst, ℕ, ◌+◌, List, Bool, false, None, Some, IfSome, Tree, lambda, Quantifier, ExprType, collection, single, expr_type, single_type, IsFirstUntypable, Typed, variable_type, with_variable, Judged, CheckContext, Walk, IsNodeJudged, IsStanding, LawsBelow, name_of, scope_of, walk_refused}
+use Rattle.odata_typing.proofs.Common.{◌≡◌, refl, sym, subst, ℕ, ◌+◌, List, Bool, false, None, Some, IfSome, Tree, lambda, Quantifier, ExprType, collection, single, expr_type, single_type, IsFirstUntypable, Typed, variable_type, with_variable, Judged, CheckContext, Walk, IsNodeJudged, IsStanding, LawsBelow, name_of, scope_of, walk_refused, ◌∙◌, none-some}
 use Rattle.odata_signatures.specs.declared.edm_type.EdmType.{EdmType}
 use Rattle.odata_signatures.specs.declared.edm_type.ValueType.{ValueType}
 use Rattle.odata_signatures.specs.declared.refusal.TypeFaultCode.{TypeFaultCode}
-use Rattle.odata_typing.proofs.bodies.Faults.{base_reason, base_unbound, body_first, taken_reason, taken_unbound, unbound_fault}
+use Rattle.odata_typing.proofs.bodies.Faults.{base_reason, base_unbound, body_first, unbound_fault}
 use Rattle.odata_typing.proofs.flat.Closing.{refused_tree, root_in, slots_in, some_on}
 
 module _ (laws : LawsBelow) (context : CheckContext) (judged : Judged) (old new : Walk) (quantifier : Quantifier) (base body : Tree) (middle : ℕ) (result : Bool)
@@ -45,7 +45,7 @@ module _ (laws : LawsBelow) (context : CheckContext) (judged : Judged) (old new 
       subst (λ (t : EdmType). Typed (slots_in context) (root_in context) scope base (expr_type schema t)) of_member (base_typed type same) in
       refused_tree context judged old mid new (lambda quantifier base variable body) TypeFaultCode.VariableTaken result stops is
       (unbound_fault laws (slots_in context) (root_in context) scope quantifier variable base body judged.node.now.span (collection m) TypeFaultCode.VariableTaken typed
-      (taken_reason scope variable m taken found) (taken_unbound scope variable taken (collection m) found))
+      (rw found refl) (λ of_type is none. none-some taken (sym none ∙ found)))
 
   -- the body has no type
   pub body_refused :

@@ -5,7 +5,7 @@ use Rattle.odata_signatures.specs.declared.refusal.TypeFaultCode.{TypeFaultCode}
 use Rattle.odata_checked_filter.specs.declared.checked_node.NodeKind.{NodeKind}
 use Rattle.odata_typing.specs.private.LambdaNode.{IsOverBody}
 use Rattle.odata_typing.proofs.bodies.Faults.{refused_body}
-use Rattle.odata_typing.proofs.flat.Closing.{put_tree, refused_tree, root_in, slots_in}
+use Rattle.odata_typing.proofs.flat.Closing.{put_changed, refused_tree, root_in, slots_in}
 use Rattle.odata_typing.proofs.flat.Idle.{idle_lambda}
 use Rattle.odata_typing.proofs.flat.Kept.{same_more}
 
@@ -30,7 +30,7 @@ module _ (laws : LawsBelow) (context : CheckContext) (judged : Judged) (old new 
       let span = judged.node.now.span in
       let m = single_type schema over.member in
       let binds : BindsVariable scope variable (Typed (slots_in context) (root_in context) scope base) m = record { over = over_typed; fresh = over.fresh } in
-      put_tree context judged laws old old new (lambda quantifier base variable body) (NodeKind.Lambda quantifier) truth_type result ready (same_more old) ready.ready.fresh goes_on
+      put_changed context judged laws old old new (lambda quantifier base variable body) (NodeKind.Lambda quantifier) truth_type result ready (same_more old judged.number judged.stop) ready.ready.fresh goes_on
       (subst (λ (t : List ℕ). new ≡ walk_put old judged (NodeKind.Lambda quantifier) truth_type t) same is)
       tt refl tt
       (record { member_type = m; body = expr_type schema over.body_stands.found.edm_type; binds = binds; body_typed = over.body_stands.typed; truth = truth; makes = refl })

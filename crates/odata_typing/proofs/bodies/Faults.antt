@@ -1,11 +1,10 @@
 -- Why a lambda operator has no type, and where.
-use Rattle.odata_typing.proofs.Common.{◌≡◌, refl, sym, ap, ◌∙◌, inl, inr, subst, ℕ, ◌≤◌, List, [], ◌∷◌, Option, Some, None, MatchOption, Bool, true, false, IsTrue, ◌↔◌, arith, none-some, Tree, lambda, node, start_of, Quantifier, ExprType, SingleType, collection, single, SchemaModel, Slots, IsBooleanOrNull, expr_type, TypeFault, IsBodyInScope, IsFirstUntypable, LambdaReason, IsTyped, IsUntyped, Scope, Typed, variable_type, with_variable, LawsBelow}
+use Rattle.odata_typing.proofs.Common.{◌≡◌, refl, sym, ap, ◌∙◌, inl, inr, subst, ℕ, ◌≤◌, List, [], ◌∷◌, None, Bool, true, false, IsTrue, ◌↔◌, arith, Tree, lambda, node, start_of, Quantifier, ExprType, SingleType, collection, single, SchemaModel, Slots, IsBooleanOrNull, expr_type, TypeFault, IsBodyInScope, IsFirstUntypable, LambdaReason, IsTyped, IsUntyped, Scope, Typed, variable_type, with_variable, LawsBelow}
 use Rattle.odata_text.specs.declared.span.Span.{Span}
 use Rattle.odata_signatures.specs.declared.edm_type.EdmType.{EdmType}
 use Rattle.odata_signatures.specs.declared.edm_type.ValueType.{ValueType}
 use Rattle.odata_signatures.specs.declared.refusal.TypeFaultCode.{TypeFaultCode}
 use Rattle.odata_signatures.specs.FirstAmong.{StartFrom}
-use Rattle.odata_typing.proofs.flat.Idle.{same_member}
 use Rattle.odata_typing.proofs.untypable.Untypable.{among_typed, first_itself, typed_start}
 
 -- of a tree with a first untypable node all such nodes start there or later
@@ -14,15 +13,6 @@ start_itself slots root scope tree fault found = λ at other is.
     let le : start_of found.part ≤ start_of other = found.first at other is in
     let e : fault.span.start ≡ start_of found.part = found.starts in
     omega arith
-
-body_reason :
-    (scope : Scope) (variable : List ℕ) (member : SingleType)
-    → variable_type scope variable ≡ None
-    → LambdaReason scope variable (collection member) TypeFaultCode.BodyNotBoolean
-body_reason scope variable member fresh =
-    let code = TypeFaultCode.BodyNotBoolean in
-    let M : Option ExprType → Type 0 = λ (o : Option ExprType). MatchOption o (code ≡ TypeFaultCode.BodyNotBoolean) (λ _. code ≡ TypeFaultCode.VariableTaken) in
-    subst M (sym fresh) refl
 
 module _ (laws : LawsBelow) (slots : Slots) (root : List ℕ) (scope : Scope) (quantifier : Quantifier) (variable : List ℕ) (base body : Tree) where
   -- the operator binds no variable, so it has no type and no body is judged
@@ -50,7 +40,7 @@ module _ (laws : LawsBelow) (slots : Slots) (root : List ℕ) (scope : Scope) (q
   -- over a base of that type the body is judged in one scope
   module _ (member : SingleType) (typed : Typed slots root scope base (collection member)) where
     one_member : (m : SingleType) → Typed slots root scope base (collection m) → m ≡ member
-    one_member m over = same_member m member (laws.one_type slots root scope base (collection m) (collection member) over typed)
+    one_member m over = cc (laws.one_type slots root scope base (collection m) (collection member) over typed)
 
     one_scope : (at : Scope) (part : Tree) → IsBodyInScope scope variable (Typed slots root scope base) body at part → at ≡ with_variable scope variable (single member)
     one_scope at part is = is.itself.0 ∙ ap (λ (m : SingleType). with_variable scope variable (single m)) (one_member is.member_type is.binds.over)
@@ -110,18 +100,8 @@ module _ (laws : LawsBelow) (slots : Slots) (root : List ℕ) (scope : Scope) (q
           | inr b ↦ body_in_scope_typed type at child body_typed b
         ])
         (body_untyped span.start span.stop type body_typed other)
-        (collection member, typed, body_reason scope variable member fresh)
+        (collection member, typed, rw fresh refl)
         refl refl
-
--- the reason where the variable is taken
-pub taken_reason : (scope : Scope) (variable : List ℕ) (member : SingleType) (type : ExprType) → variable_type scope variable ≡ Some type → LambdaReason scope variable (collection member) TypeFaultCode.VariableTaken
-taken_reason scope variable member type taken =
-    let code = TypeFaultCode.VariableTaken in
-    let M : Option ExprType → Type 0 = λ (o : Option ExprType). MatchOption o (code ≡ TypeFaultCode.BodyNotBoolean) (λ _. code ≡ TypeFaultCode.VariableTaken) in
-    subst M (sym taken) refl
-
-pub taken_unbound : (scope : Scope) (variable : List ℕ) (type : ExprType) (base : ExprType) → variable_type scope variable ≡ Some type → (m : SingleType) → base ≡ collection m → ¬ (variable_type scope variable ≡ None)
-taken_unbound scope variable type base taken m is none = none-some type (sym none ∙ taken)
 
 -- a base that is not a collection
 pub base_reason : (schema : SchemaModel) (scope : Scope) (variable : List ℕ) (type : EdmType) → ((member : ValueType) → ¬ (type ≡ EdmType.Collection member)) → LambdaReason scope variable (expr_type schema type) TypeFaultCode.NotCollection

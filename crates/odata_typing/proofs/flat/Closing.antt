@@ -1,24 +1,11 @@
 -- A node that is put over its children stands there for its tree; or why it is not put.
-use Rattle.odata_typing.proofs.Common.{◌≡◌, ◌∙◌, refl, sym, inr, ℕ, zero, suc, ◌<◌, ◌+◌, List, [], ◌∷◌, ◌++◌, Bool, true, false, None, Some, length, slice_get, slice_set, arith, Option, IfSome, IfNone, IsSomeAnd, none-some, Shape, Tree, node, Slots, slots_of, type_name_at, IsTypeThere, expr_type, IsFirstUntypable, Typed, CheckedNode, FlatTree, IsKeptOutside, node_put, with_value, ChildrenStand, HasOwnValue, IsKindOf, text_of_shape, Judged, CheckContext, Walk, IsIdle, IsNodeJudged, LawsBelow, IsNodeReady, scope_of, checked, walk_put, walk_refused}
+use Rattle.odata_typing.proofs.Common.{◌≡◌, ◌∙◌, refl, sym, ℕ, ◌<◌, ◌+◌, List, [], ◌∷◌, Bool, true, false, None, Some, length, slice_get, arith, Option, IfSome, IfNone, IsSomeAnd, Shape, Tree, node, Slots, slots_of, type_name_at, IsTypeThere, expr_type, IsFirstUntypable, Typed, CheckedNode, FlatTree, IsKeptOutside, node_put, with_value, ChildrenStand, HasOwnValue, IsKindOf, text_of_shape, Judged, CheckContext, Walk, IsIdle, IsNodeJudged, LawsBelow, IsNodeReady, scope_of, checked, walk_put, walk_refused}
 use Rattle.edm_values.specs.declared.value.Value.{Value}
 use Rattle.odata_signatures.specs.declared.edm_type.EdmType.{EdmType}
 use Rattle.odata_signatures.specs.declared.refusal.TypeFaultCode.{TypeFaultCode}
 use Rattle.odata_checked_filter.specs.declared.checked_node.NodeKind.{NodeKind}
 use Rattle.odata_typing.proofs.flat.Kept.{IsMore, IsOnward, kept_on, kept_wider}
-
-pub get_put : (xs : List CheckedNode) (k : ℕ) (x : CheckedNode) → k < length xs → slice_get (slice_set xs k x) k ≡ Some x
-get_put [] k x within = let h : k < 0 = within in absurd (omega arith)
-get_put (y ∷ xs) zero x within = refl
-get_put (y ∷ xs) (suc k) x within = get_put xs k x (let h : suc k < suc (length xs) = within in omega arith)
-
-get_front : (xs ys : List Value) (k : ℕ) (x : Value) → slice_get xs k ≡ Some x → slice_get (xs ++ ys) k ≡ Some x
-get_front [] ys k x found = absurd (none-some x found)
-get_front (y ∷ xs) ys zero x found = found
-get_front (y ∷ xs) ys (suc k) x found = get_front xs ys k x found
-
-get_last : (xs : List Value) (x : Value) → slice_get (xs ++ x ∷ []) (length xs) ≡ Some x
-get_last [] x = refl
-get_last (y ∷ xs) x = get_last xs x
+use Rattle.odata_checked_filter.proofs.flat.Places.{get_front, get_last, get_put}
 
 pub some_on : {X : Type 0} (o : Option X) (P Q : X → Type 0) → ((x : X) → P x → Q x) → IfSome o P → IfSome o Q
 some_on None P Q f holds = tt
@@ -40,25 +27,11 @@ value_kept i j list value = record {
 
 -- the value that was put
 pub value_put : (list : FlatTree) (value : Value) → slice_get (with_value list value).values (length list.values) ≡ Some value
-value_put list value = get_last list.values value
+value_put list value = get_last list.values (length list.values) value refl
 
 -- the walk with a value more
 pub valued_more : (old new : Walk) (value : Value) → new ≡ record old { list = with_value old.list value } → IsMore old new
-valued_more old new value is = rw is (record { kept = value_kept 0 0 old.list value; navigates = λ idle. idle })
-
-kept_anywhere : (i j : ℕ) (a b : FlatTree) → IsKeptOutside 0 0 a b → IsKeptOutside i j a b
-kept_anywhere i j a b kept = record {
-  nodes = λ k outside. kept.nodes k (inr (omega arith));
-  texts = λ k outside. kept.texts k (inr (omega arith));
-  values = kept.values;
-  count = kept.count;
-  beside = kept.beside;
-  source = kept.source;
-}
-
--- where only values were put, a change is within any indices
-pub more_within : (i j : ℕ) (old new : Walk) → IsMore old new → IsOnward i j old new
-more_within i j old new more = record { kept = kept_anywhere i j old.list new.list more.kept; navigates = more.navigates }
+valued_more old new value is = λ i j. rw is (record { kept = value_kept i j old.list value; navigates = λ idle. idle })
 
 -- the tree of a node of that shape
 abbrev pub tree_over : Judged → Shape → Tree
@@ -116,24 +89,6 @@ module _ (context : CheckContext) (judged : Judged) where
         navigates = onward.navigates;
         fault = fresh;
       })
-
-  -- the same where only values were put before
-  pub put_tree :
-      (laws : LawsBelow) (old mid new : Walk) (shape : Shape) (kind : NodeKind) (type : EdmType) (result : Bool)
-      → IsNodeReady context old judged
-      → IsMore old mid
-      → mid.fault ≡ None
-      → result ≡ true
-      → new ≡ walk_put mid judged kind type (text_of_shape shape)
-      → IsTypeThere context.schema.now type
-      → IsKindOf (slots_in context) (root_in context) (scope_of context) shape kind
-      → HasOwnValue mid.list.values (slots_in context) shape kind
-      → Typed (slots_in context) (root_in context) (scope_of context) (tree_over judged shape) (expr_type context.schema.now type)
-      → ChildrenStand context.schema.now context.filtered_type (scope_of context) mid.list (judged.number + 1) judged.stop shape
-      → (mid.navigates ≡ false → IsIdle (slots_in context) (root_in context) (scope_of context) (tree_over judged shape))
-      → IsNodeJudged context judged shape old new result
-  put_tree laws old mid new shape kind type result ready more =
-      put_changed laws old mid new shape kind type result ready (more_within judged.number judged.stop old mid more)
 
   -- the node has no type itself
   pub refused_tree :

@@ -48,10 +48,10 @@ pub record IsOnward (i j : ℕ) (old new : Walk) : Type 0 where
 
 -- the walk has gone on at no node: only values were put
 abbrev pub IsMore : Walk → Walk → Type 0
-IsMore old new = IsOnward 0 0 old new
+IsMore old new = (i j : ℕ) → IsOnward i j old new
 
 pub same_more : (walk : Walk) → IsMore walk walk
-same_more walk = record { kept = same_kept 0 0 walk.list; navigates = λ idle. idle }
+same_more walk = λ i j. record { kept = same_kept i j walk.list; navigates = λ idle. idle }
 
 module _ (laws : LawsBelow) (schema : SchemaModel) (n : ℕ) (scope : Scope) (i j : ℕ) (old new : Walk) (onward : IsOnward i j old new) where
   pub standing_kept : (from to : ℕ) (tree : Tree) → (to ≤ i) ⊎ (j ≤ from) → IsStanding schema n scope old from to tree → IsStanding schema n scope new from to tree
@@ -68,7 +68,7 @@ module _ (laws : LawsBelow) (schema : SchemaModel) (n : ℕ) (scope : Scope) (i 
 
 -- a walk over a property, which may lead to another entity
 pub navigated_more : (old new : Walk) → new ≡ record old { navigates = new.navigates } → (new.navigates ≡ false → old.navigates ≡ false) → IsMore old new
-navigated_more old new is before = record {
-  kept = subst (λ (list : FlatTree). IsKeptOutside 0 0 old.list list) (sym (ap (λ (w : Walk). w.list) is)) (same_kept 0 0 old.list);
+navigated_more old new is before = λ i j. record {
+  kept = subst (λ (list : FlatTree). IsKeptOutside i j old.list list) (sym (ap (λ (w : Walk). w.list) is)) (same_kept i j old.list);
   navigates = before;
 }

@@ -1,64 +1,48 @@
 -- What holds of each form between two operands.
-use Rattle.odata_typing.proofs.Common.{◌≡◌, refl, ℕ, List, [], ◌∷◌, Option, Some, None, IfNone, IfSome, Tree, node, ExprType, SchemaModel, Slots, slots_of, type_name_at, IsConsideredBody, children_in_scope, OfEquality, Between, OperandsTyped, Scope, Typed, FlatTree, ResolvedStands, ChildrenStand, HasOwnValue, IsKindOf, Stands, text_of_shape, InfixTyped, IsInfix, infix_shape}
+use Rattle.odata_typing.proofs.Common.{◌≡◌, refl, ℕ, List, [], ◌∷◌, Option, Some, None, IfNone, IfSome, Tree, node, ExprType, SchemaModel, Slots, slots_of, type_name_at, IsConsideredBody, children_in_scope, OfEquality, Between, OperandsTyped, Scope, Typed, FlatTree, ResolvedStands, ChildrenStand, HasOwnValue, IsKindOf, Stands, text_of_shape, InfixTyped, IsInfix, infix_shape, ◌↔◌}
 use Rattle.edm_values.specs.declared.value.Value.{Value}
 use Rattle.odata_checked_filter.specs.declared.checked_node.NodeKind.{NodeKind}
+use Rattle.odata_syntax.specs.declared.binary_operator.BinaryOperator.{BinaryOperator}
 
-pub infix_typed :
-    (slots : Slots) (root : List ℕ) (scope : Scope) (start stop : ℕ) (form : NodeKind) (left right : Tree) (type : ExprType)
-    → IsInfix form
-    → OperandsTyped (Typed slots root scope left) (Typed slots root scope right) (Between (InfixTyped slots form) left right) type
-    → Typed slots root scope (node start stop (infix_shape form left right)) type
-infix_typed slots root scope start stop (NodeKind.Binary operator) left right type is typed = typed
-infix_typed slots root scope start stop NodeKind.Has left right type is typed = typed
-infix_typed slots root scope start stop NodeKind.InPath left right type is typed = typed
-infix_typed slots root scope start stop _ left right type is typed = absurd is
+-- what holds of each of them
+by_infix : (P : NodeKind → Type 0) → ((operator : BinaryOperator) → P (NodeKind.Binary operator)) → P NodeKind.Has → P NodeKind.InPath → (form : NodeKind) → IsInfix form → P form
+by_infix P binary has path (NodeKind.Binary operator) is = binary operator
+by_infix P binary has path NodeKind.Has is = has
+by_infix P binary has path NodeKind.InPath is = path
+by_infix P binary has path _ is = absurd is
 
-pub infix_only :
+pub infix_types :
     (slots : Slots) (root : List ℕ) (scope : Scope) (start stop : ℕ) (form : NodeKind) (left right : Tree) (type : ExprType)
     → IsInfix form
     → Typed slots root scope (node start stop (infix_shape form left right)) type
-    → OperandsTyped (Typed slots root scope left) (Typed slots root scope right) (Between (InfixTyped slots form) left right) type
-infix_only slots root scope start stop (NodeKind.Binary operator) left right type is typed = typed
-infix_only slots root scope start stop NodeKind.Has left right type is typed = typed
-infix_only slots root scope start stop NodeKind.InPath left right type is typed = typed
-infix_only slots root scope start stop _ left right type is typed = absurd is
+    ↔ OperandsTyped (Typed slots root scope left) (Typed slots root scope right) (Between (InfixTyped slots form) left right) type
+infix_types slots root scope start stop form left right type =
+    by_infix
+    (λ f. Typed slots root scope (node start stop (infix_shape f left right)) type
+    ↔ OperandsTyped (Typed slots root scope left) (Typed slots root scope right) (Between (InfixTyped slots f) left right) type)
+    (λ operator. (λ typed. typed, λ typed. typed)) (λ typed. typed, λ typed. typed) (λ typed. typed, λ typed. typed) form
 
 pub infix_children : (form : NodeKind) (left right : Tree) → IsInfix form → children_in_scope (infix_shape form left right) ≡ left ∷ right ∷ []
-infix_children (NodeKind.Binary operator) left right is = refl
-infix_children NodeKind.Has left right is = refl
-infix_children NodeKind.InPath left right is = refl
-infix_children _ left right is = absurd is
+infix_children form left right = by_infix (λ f. children_in_scope (infix_shape f left right) ≡ left ∷ right ∷ []) (λ operator. refl) refl refl form
 
 pub infix_bodiless :
     (slots : Slots) (root : List ℕ) (scope : Scope) (form : NodeKind) (left right : Tree) (at : Scope) (body : Tree)
     → IsInfix form
     → ¬ IsConsideredBody slots root scope (infix_shape form left right) at body
-infix_bodiless slots root scope (NodeKind.Binary operator) left right at body between is = is
-infix_bodiless slots root scope NodeKind.Has left right at body between is = is
-infix_bodiless slots root scope NodeKind.InPath left right at body between is = is
-infix_bodiless slots root scope _ left right at body between is = between
+infix_bodiless slots root scope form left right at body =
+    by_infix (λ f. ¬ IsConsideredBody slots root scope (infix_shape f left right) at body) (λ operator is. is) (λ is. is) (λ is. is) form
 
 pub infix_text : (form : NodeKind) (left right : Tree) → IsInfix form → text_of_shape (infix_shape form left right) ≡ []
-infix_text (NodeKind.Binary operator) left right is = refl
-infix_text NodeKind.Has left right is = refl
-infix_text NodeKind.InPath left right is = refl
-infix_text _ left right is = absurd is
+infix_text form left right = by_infix (λ f. text_of_shape (infix_shape f left right) ≡ []) (λ operator. refl) refl refl form
 
--- each form is that of its kind, and has no value
 pub infix_kind :
     (slots : Slots) (root : List ℕ) (scope : Scope) (form : NodeKind) (left right : Tree)
     → IsInfix form
     → IsKindOf slots root scope (infix_shape form left right) form
-infix_kind slots root scope (NodeKind.Binary operator) left right is = refl
-infix_kind slots root scope NodeKind.Has left right is = refl
-infix_kind slots root scope NodeKind.InPath left right is = refl
-infix_kind slots root scope _ left right is = absurd is
+infix_kind slots root scope form left right = by_infix (λ f. IsKindOf slots root scope (infix_shape f left right) f) (λ operator. refl) refl refl form
 
 pub infix_valued : (values : List Value) (slots : Slots) (form : NodeKind) (left right : Tree) → IsInfix form → HasOwnValue values slots (infix_shape form left right) form
-infix_valued values slots (NodeKind.Binary operator) left right is = tt
-infix_valued values slots NodeKind.Has left right is = tt
-infix_valued values slots NodeKind.InPath left right is = tt
-infix_valued values slots _ left right is = absurd is
+infix_valued values slots form left right = by_infix (λ f. HasOwnValue values slots (infix_shape f left right) f) (λ operator. tt) tt tt form
 
 module _ (schema : SchemaModel) (n : ℕ) (scope : Scope) (list : FlatTree) where
   abbrev Alone : Tree → ℕ → ℕ → Type 0

@@ -1,21 +1,13 @@
 -- What holds of each form over one operand.
-use Rattle.odata_typing.proofs.Common.{◌≡◌, refl, ℕ, List, [], ◌∷◌, Tree, node, ExprType, SchemaModel, Slots, IsConsideredBody, children_in_scope, IsReason, OperandTyped, Scope, Typed, FlatTree, ChildrenStand, HasOwnValue, IsKindOf, Stands, text_of_shape, UnaryTyped, unary_code, unary_kind, unary_shape}
+use Rattle.odata_typing.proofs.Common.{◌≡◌, refl, ℕ, List, [], ◌∷◌, Tree, node, ExprType, SchemaModel, Slots, IsConsideredBody, children_in_scope, IsReason, OperandTyped, Scope, Typed, FlatTree, ChildrenStand, HasOwnValue, IsKindOf, Stands, text_of_shape, UnaryTyped, unary_code, unary_kind, unary_shape, ◌↔◌}
 use Rattle.edm_values.specs.declared.value.Value.{Value}
 use Rattle.odata_typing.specs.declared.unary_node.Unary.{Unary}
 
-pub unary_typed :
+pub unary_types :
     (slots : Slots) (root : List ℕ) (scope : Scope) (start stop : ℕ) (unary : Unary) (operand : Tree) (type : ExprType)
-    → OperandTyped (Typed slots root scope operand) (UnaryTyped unary) type
-    → Typed slots root scope (node start stop (unary_shape unary operand)) type
-unary_typed slots root scope start stop Unary.Negation operand type typed = typed
-unary_typed slots root scope start stop _ operand type typed = typed
-
-pub unary_only :
-    (slots : Slots) (root : List ℕ) (scope : Scope) (start stop : ℕ) (unary : Unary) (operand : Tree) (type : ExprType)
-    → Typed slots root scope (node start stop (unary_shape unary operand)) type
-    → OperandTyped (Typed slots root scope operand) (UnaryTyped unary) type
-unary_only slots root scope start stop Unary.Negation operand type typed = typed
-unary_only slots root scope start stop _ operand type typed = typed
+    → Typed slots root scope (node start stop (unary_shape unary operand)) type ↔ OperandTyped (Typed slots root scope operand) (UnaryTyped unary) type
+unary_types slots root scope start stop Unary.Negation operand type = (λ typed. typed, λ typed. typed)
+unary_types slots root scope start stop _ operand type = (λ typed. typed, λ typed. typed)
 
 pub unary_children : (unary : Unary) (operand : Tree) → children_in_scope (unary_shape unary operand) ≡ operand ∷ []
 unary_children Unary.Negation operand = refl

@@ -1,5 +1,5 @@
 -- Nodes between two operands.
-use Rattle.odata_typing.proofs.Common.{◌≡◌, ◌∙◌, refl, sym, ap, subst, inl, inr, ℕ, ℤ, ◌+◌, List, [], ◌∷◌, Bool, true, false, None, Some, Option, IfNone, IfSome, slice_get, arith, Tree, ExprType, SchemaModel, IsResolvedBy, LacksNumber, ResolvedNumber, Side, quoting, IsTypeThere, expr_type, IsReason, Between, quoted_text, side_of, Scope, FlatTree, number_put, NumberStands, Stands, Judged, CheckContext, Walk, InfixByTypes, InfixReason, InfixTyped, IsInfix, infix_shape, AreChildren, IsNodeJudged, IsStanding, LawsBelow, quoted_in, IsNodeReady, scope_of, IsReadPut, truth_type, walk_put, walk_refused}
+use Rattle.odata_typing.proofs.Common.{◌≡◌, ◌∙◌, refl, sym, ap, subst, inl, inr, ℕ, ℤ, ◌+◌, List, [], ◌∷◌, Bool, true, false, None, Some, Option, IfNone, IfSome, slice_get, arith, Tree, ExprType, SchemaModel, IsResolvedBy, ResolvedNumber, Side, quoting, IsTypeThere, expr_type, IsReason, Between, quoted_text, side_of, Scope, FlatTree, number_put, NumberStands, Stands, Judged, CheckContext, Walk, InfixByTypes, InfixReason, InfixTyped, IsInfix, infix_shape, AreChildren, IsNodeJudged, IsStanding, LawsBelow, quoted_in, IsNodeReady, scope_of, IsReadPut, truth_type, walk_put, walk_refused, CheckedNode, ◌⊎◌, ◌<◌, ◌≤◌, boolean_type}
 use Rattle.std.specs.Option.{option_map}
 use Rattle.odata_syntax.specs.declared.binary_operator.BinaryOperator.{BinaryOperator}
 use Rattle.odata_signatures.specs.declared.edm_type.EdmType.{EdmType}
@@ -8,13 +8,12 @@ use Rattle.odata_checked_filter.specs.declared.checked_node.NodeKind.{NodeKind}
 use Rattle.odata_typing.specs.declared.binary_node.OperandTypes.{OperandTypes}
 use Rattle.odata_typing.specs.declared.operand_text.OperandRead.{OperandRead}
 use Rattle.odata_typing.specs.private.OperandTexts.{IsLeftRead, IsOperandRead, IsRightRead, OneIsRead, left_side, right_side}
-use Rattle.odata_typing.proofs.flat.Closing.{IsPutFor, more_within, put_changed, refused_tree, root_in, slots_in, tree_over, unjudged}
+use Rattle.odata_typing.proofs.flat.Closing.{IsPutFor, put_changed, refused_tree, root_in, slots_in, tree_over, unjudged}
 use Rattle.odata_typing.proofs.flat.Idle.{idle_between}
-use Rattle.odata_typing.proofs.flat.Kept.{IsOnward, kept_wider, same_more}
-use Rattle.odata_typing.proofs.forms.Infix.{LeftStands, RightStands, infix_kind, infix_stands, infix_text, infix_typed, infix_valued}
+use Rattle.odata_typing.proofs.flat.Kept.{IsOnward, kept_wider, same_kept, same_more}
+use Rattle.odata_typing.proofs.forms.Infix.{LeftStands, RightStands, infix_kind, infix_stands, infix_text, infix_types, infix_valued}
 use Rattle.odata_typing.proofs.resolved_operands.Given.{number_changes, number_given}
 use Rattle.odata_typing.proofs.resolved_operands.Infixes.{flags_unread, left_alone, left_read_typed, left_unread, right_alone, right_read_typed, right_unread, typed_types, types_typed, unknown_reason, unknown_untyped, unread_reason}
-use Rattle.odata_typing.proofs.resolved_operands.Numbers.{is_read, reading}
 use Rattle.odata_typing.proofs.placed.Quoted.{quoted_standing}
 use Rattle.odata_typing.proofs.untypable.Operands.{refused_between}
 
@@ -54,6 +53,12 @@ module _ (laws : LawsBelow) (context : CheckContext) (judged : Judged) (old new 
   abbrev right_type : ExprType
   right_type = expr_type context.schema.now two.right.found.edm_type
 
+  -- what stands for the operands in a list
+  abbrev Stand : NodeKind → FlatTree → Type 0
+  Stand kind list =
+      LeftStands context.schema.now context.filtered_type (scope_of context) list kind l r (judged.number + 1) two.middle
+      × RightStands context.schema.now context.filtered_type (scope_of context) list kind l r two.middle judged.stop
+
   put_between :
       (mid : Walk) (type : EdmType)
       → IsOnward judged.number judged.stop old mid
@@ -61,11 +66,10 @@ module _ (laws : LawsBelow) (context : CheckContext) (judged : Judged) (old new 
       → result ≡ true
       → new ≡ walk_put mid judged form type []
       → IsTypeThere context.schema.now type
-      → LeftStands context.schema.now context.filtered_type (scope_of context) mid.list form l r (judged.number + 1) two.middle
-      → RightStands context.schema.now context.filtered_type (scope_of context) mid.list form l r two.middle judged.stop
+      → Stand form mid.list
       → Between (InfixTyped (slots_in context) form) l r left_type right_type (expr_type context.schema.now type)
       → IsNodeJudged context judged (infix_shape form l r) old new result
-  put_between mid type onward fresh goes_on is there left right makes =
+  put_between mid type onward fresh goes_on is there stand makes =
       let slots = slots_in context in
       let root = root_in context in
       let scope = scope_of context in
@@ -74,9 +78,9 @@ module _ (laws : LawsBelow) (context : CheckContext) (judged : Judged) (old new 
       put_changed context judged laws old mid new (infix_shape form l r) form type result ready onward fresh goes_on
       (subst (λ (text : List ℕ). new ≡ walk_put mid judged form type text) (sym (infix_text form l r between)) is)
       there (infix_kind slots root scope form l r between) (infix_valued mid.list.values slots form l r between)
-      (infix_typed slots root scope span.start span.stop form l r (expr_type schema type) between
+      ((infix_types slots root scope span.start span.stop form l r (expr_type schema type) between).1
       (record { left = left_type; right = right_type; left_typed = two.left.typed; right_typed = two.right.typed; makes = makes }))
-      (infix_stands schema context.filtered_type scope mid.list (judged.number + 1) two.middle judged.stop form l r between left right)
+      (infix_stands schema context.filtered_type scope mid.list (judged.number + 1) two.middle judged.stop form l r between stand.0 stand.1)
       (λ idle. idle_between slots root scope span.start span.stop form l r between (two.left.idle (onward.navigates idle)) (two.right.idle (onward.navigates idle)))
 
   refuse_between :
@@ -90,22 +94,17 @@ module _ (laws : LawsBelow) (context : CheckContext) (judged : Judged) (old new 
       refused_tree context judged old mid new (infix_shape form l r) code result stops is
       (refused_between laws (slots_in context) (root_in context) (scope_of context) judged.node.now.span form l r left_type right_type code between two.left.typed two.right.typed none reason)
 
-  -- what stands for an operand by itself, where neither is read
-  left_by_itself : (kind : NodeKind) → ¬ OneIsRead IsResolvedBy kind (side_of l left_type) (side_of r right_type)
-      → Stands context.schema.now context.filtered_type (scope_of context) old.list (judged.number + 1) two.middle l
-      → LeftStands context.schema.now context.filtered_type (scope_of context) old.list kind l r (judged.number + 1) two.middle
-  left_by_itself (NodeKind.Binary operator) unread stands =
-      inr (left_unread laws (slots_in context) (root_in context) (scope_of context) l r left_type right_type two.left.typed two.right.typed operator unread, stands)
-  left_by_itself _ unread stands = stands
-
-  right_by_itself : (kind : NodeKind) → ¬ OneIsRead IsResolvedBy kind (side_of l left_type) (side_of r right_type)
-      → Stands context.schema.now context.filtered_type (scope_of context) old.list two.middle judged.stop r
-      → RightStands context.schema.now context.filtered_type (scope_of context) old.list kind l r two.middle judged.stop
-  right_by_itself (NodeKind.Binary operator) unread stands =
-      inr (right_unread laws (slots_in context) (root_in context) (scope_of context) l r left_type right_type two.left.typed two.right.typed operator unread, stands)
-  right_by_itself NodeKind.Has unread stands =
-      inr (flags_unread laws (slots_in context) (root_in context) (scope_of context) l r left_type right_type two.left.typed two.right.typed unread, stands)
-  right_by_itself _ unread stands = stands
+  -- the operands where none is read
+  unread_stand : (kind : NodeKind) → ¬ OneIsRead IsResolvedBy kind (side_of l left_type) (side_of r right_type) → Stand kind old.list
+  unread_stand (NodeKind.Binary operator) unread = (
+    inr (left_unread laws (slots_in context) (root_in context) (scope_of context) l r left_type right_type two.left.typed two.right.typed operator unread, two.left.stands),
+    inr (right_unread laws (slots_in context) (root_in context) (scope_of context) l r left_type right_type two.left.typed two.right.typed operator unread, two.right.stands),
+  )
+  unread_stand NodeKind.Has unread = (
+    two.left.stands,
+    inr (flags_unread laws (slots_in context) (root_in context) (scope_of context) l r left_type right_type two.left.typed two.right.typed unread, two.right.stands),
+  )
+  unread_stand _ unread = (two.left.stands, two.right.stands)
 
   -- neither is read, so that the types alone count
   pub judged_between :
@@ -116,133 +115,73 @@ module _ (laws : LawsBelow) (context : CheckContext) (judged : Judged) (old new 
       → IsPutFor made result new (λ type. walk_put old judged form type []) (walk_refused old judged.node.now.span code)
       → IsNodeJudged context judged (infix_shape form l r) old new result
   judged_between (Some type) code unread reason makes is =
-      put_between old type (more_within judged.number judged.stop old old (same_more old)) ready.ready.fresh is.some is.put_is makes.there
-      (left_by_itself form unread two.left.stands) (right_by_itself form unread two.right.stands)
+      put_between old type (same_more old judged.number judged.stop) ready.ready.fresh is.some is.put_is makes.there
+      (unread_stand form unread)
       (types_typed (slots_in context) form l r left_type right_type (expr_type context.schema.now type) makes.typed)
   judged_between None code unread reason makes is =
       refuse_between old code is.none is.refused_is
       (λ type typed. makes.none type (typed_types laws (slots_in context) form l r left_type right_type type unread typed))
       (unread_reason laws (slots_in context) (root_in context) (scope_of context) l r left_type right_type two.left.typed two.right.typed judged.node.now.span.start judged.node.now.span.stop form code unread reason)
 
-  -- one is read as that number, which is its value then
-  module _ (mid : Walk) (number : ℤ) where
-    right_onward : mid ≡ record old { list = number_put old.list two.middle two.right.found number } → IsOnward judged.number judged.stop old mid
-    right_onward is = rw is (record {
-      kept = kept_wider two.middle (two.middle + 1) judged.number judged.stop old.list (number_put old.list two.middle two.right.found number)
-          (let a = two.left.order in omega arith) (let b = two.right.order in omega arith) (number_changes old.list two.middle two.right.found number);
-      navigates = λ idle. idle;
-    })
+  -- an operand that is given a number, and one that stands as it did
+  given : (i j : ℕ) (tree : Tree) (stands : IsStanding context.schema.now context.filtered_type (scope_of context) old i j tree) (operand : ExprType) (number : ℤ)
+      → ResolvedNumber (slots_in context) operand (quoted_text tree) number
+      → NumberStands context.schema.now context.filtered_type (scope_of context) (number_put old.list i stands.found number) number i j tree
+  given i j tree stands operand number is =
+      number_given context.schema.now context.filtered_type (scope_of context) old.list (number_put old.list i stands.found number) i j j j tree stands.found operand number is stands.at
+      (same_kept j j (number_put old.list i stands.found number)) stands.order stands.stands
 
-    left_onward : mid ≡ record old { list = number_put old.list (judged.number + 1) two.left.found number } → IsOnward judged.number judged.stop old mid
-    left_onward is = rw is (record {
-      kept = kept_wider (judged.number + 1) (judged.number + 1 + 1) judged.number judged.stop old.list (number_put old.list (judged.number + 1) two.left.found number)
-          (omega arith) (let a = two.left.order in let b = two.right.order in omega arith) (number_changes old.list (judged.number + 1) two.left.found number);
-      navigates = λ idle. idle;
-    })
-
-    right_beside : (operand : ExprType) → ResolvedNumber (slots_in context) operand (quoted_text r) number
-        → NumberStands context.schema.now context.filtered_type (scope_of context) (number_put old.list two.middle two.right.found number) number two.middle judged.stop r
-    right_beside operand beside =
-        let is = reading operand (quoted_text r) (is_read (slots_in context) operand (quoted_text r) number beside) in
-        number_given context.schema.now context.filtered_type (scope_of context) old.list two.middle judged.stop r two.right.found is.spelling number is.quotes two.right.at two.right.stands
-
-    left_beside : (operand : ExprType) → ResolvedNumber (slots_in context) operand (quoted_text l) number
-        → NumberStands context.schema.now context.filtered_type (scope_of context) (number_put old.list (judged.number + 1) two.left.found number) number (judged.number + 1) two.middle l
-    left_beside operand beside =
-        let is = reading operand (quoted_text l) (is_read (slots_in context) operand (quoted_text l) number beside) in
-        number_given context.schema.now context.filtered_type (scope_of context) old.list (judged.number + 1) two.middle l two.left.found is.spelling number is.quotes two.left.at two.left.stands
-
-    -- the other one stands as it did
-    left_stays : Stands context.schema.now context.filtered_type (scope_of context) (number_put old.list two.middle two.right.found number) (judged.number + 1) two.middle l
-    left_stays = laws.kept context.schema.now context.filtered_type (scope_of context) old.list (number_put old.list two.middle two.right.found number) two.middle (two.middle + 1) (judged.number + 1) two.middle l
-        (number_changes old.list two.middle two.right.found number) (inl (omega arith)) two.left.stands
-
-    right_stays : Stands context.schema.now context.filtered_type (scope_of context) (number_put old.list (judged.number + 1) two.left.found number) two.middle judged.stop r
-    right_stays = laws.kept context.schema.now context.filtered_type (scope_of context) old.list (number_put old.list (judged.number + 1) two.left.found number) (judged.number + 1) (judged.number + 1 + 1) two.middle judged.stop r
-        (number_changes old.list (judged.number + 1) two.left.found number) (inr (let a = two.left.order in omega arith)) two.right.stands
+  stays : (place from to : ℕ) (tree : Tree) (found : CheckedNode) (number : ℤ) → (to ≤ place) ⊎ (place + 1 ≤ from)
+      → Stands context.schema.now context.filtered_type (scope_of context) old.list from to tree
+      → Stands context.schema.now context.filtered_type (scope_of context) (number_put old.list place found number) from to tree
+  stays place from to tree found number =
+      laws.kept context.schema.now context.filtered_type (scope_of context) old.list (number_put old.list place found number) place (place + 1) from to tree (number_changes old.list place found number)
 
   -- what stands for both then
-  right_given : (kind : NodeKind) (number : ℤ) → IsRightRead (slots_in context) kind (side_of l left_type) (side_of r right_type) number
-      → LeftStands context.schema.now context.filtered_type (scope_of context) (number_put old.list two.middle two.right.found number) kind l r (judged.number + 1) two.middle
-      × RightStands context.schema.now context.filtered_type (scope_of context) (number_put old.list two.middle two.right.found number) kind l r two.middle judged.stop
+  right_given : (kind : NodeKind) (number : ℤ) → IsRightRead (slots_in context) kind (side_of l left_type) (side_of r right_type) number → Stand kind (number_put old.list two.middle two.right.found number)
   right_given (NodeKind.Binary operator) number is = (
-    inr (left_alone laws (slots_in context) (root_in context) (scope_of context) l r left_type right_type two.left.typed two.right.typed operator number is.1, left_stays old number),
-    inl (number, record { type_of = left_type; beside = (is.0, two.left.typed); number = is.1 }, right_beside old number left_type is.1),
+    inr (
+      left_alone laws (slots_in context) (root_in context) (scope_of context) l r left_type right_type two.left.typed two.right.typed operator number is.1,
+      stays two.middle (judged.number + 1) two.middle l two.right.found number (inl (omega arith)) two.left.stands,
+    ),
+    inl (number, record { type_of = left_type; beside = (is.0, two.left.typed); number = is.1 }, given two.middle judged.stop r two.right left_type number is.1),
   )
   right_given NodeKind.Has number is = (
-    left_stays old number,
-    inl (number, record { type_of = left_type; beside = two.left.typed; number = is }, right_beside old number left_type is),
+    stays two.middle (judged.number + 1) two.middle l two.right.found number (inl (omega arith)) two.left.stands,
+    inl (number, record { type_of = left_type; beside = two.left.typed; number = is }, given two.middle judged.stop r two.right left_type number is),
   )
   right_given _ number is = absurd is
 
-  left_given : (kind : NodeKind) (number : ℤ) → IsLeftRead (slots_in context) kind (side_of l left_type) (side_of r right_type) number
-      → LeftStands context.schema.now context.filtered_type (scope_of context) (number_put old.list (judged.number + 1) two.left.found number) kind l r (judged.number + 1) two.middle
-      × RightStands context.schema.now context.filtered_type (scope_of context) (number_put old.list (judged.number + 1) two.left.found number) kind l r two.middle judged.stop
+  left_given : (kind : NodeKind) (number : ℤ) → IsLeftRead (slots_in context) kind (side_of l left_type) (side_of r right_type) number → Stand kind (number_put old.list (judged.number + 1) two.left.found number)
   left_given (NodeKind.Binary operator) number is = (
-    inl (number, record { type_of = right_type; beside = (is.0, two.right.typed); number = is.2 }, left_beside old number right_type is.2),
-    inr (right_alone laws (slots_in context) (root_in context) (scope_of context) l r left_type right_type two.left.typed two.right.typed operator is.1, right_stays old number),
+    inl (number, record { type_of = right_type; beside = (is.0, two.right.typed); number = is.2 }, given (judged.number + 1) two.middle l two.left right_type number is.2),
+    inr (
+      right_alone laws (slots_in context) (root_in context) (scope_of context) l r left_type right_type two.left.typed two.right.typed operator is.1,
+      stays (judged.number + 1) two.middle judged.stop r two.left.found number (inr (let a = two.left.order in omega arith)) two.right.stands,
+    ),
   )
   left_given _ number is = absurd is
 
-  pub right_read_between :
-      (mid : Walk) (number : ℤ)
-      → IsRightRead (slots_in context) form (side_of l left_type) (side_of r right_type) number
-      → mid ≡ record old { list = number_put old.list two.middle two.right.found number }
-      → result ≡ true
-      → new ≡ walk_put mid judged form truth_type []
+  -- as the code puts the number of the operand at an index, or an allocation failed
+  read_put :
+      (place : ℕ) (found : CheckedNode) (number : ℤ) (done : Bool)
+      → slice_get old.list.nodes place ≡ Some found
+      → judged.number ≤ place
+      → place < judged.stop
+      → Stand form (number_put old.list place found number)
+      → Between (InfixTyped (slots_in context) form) l r left_type right_type boolean_type
+      → result ≡ done
+      → IsReadPut old judged form place number new done
       → IsNodeJudged context judged (infix_shape form l r) old new result
-  right_read_between mid number read is goes_on put =
-      let given = right_given form number read in
-      let lists : number_put old.list two.middle two.right.found number ≡ mid.list = sym (ap (λ (w : Walk). w.list) is) in
-      let Left : FlatTree → Type 0 = λ (list : FlatTree). LeftStands context.schema.now context.filtered_type (scope_of context) list form l r (judged.number + 1) two.middle in
-      let Right : FlatTree → Type 0 = λ (list : FlatTree). RightStands context.schema.now context.filtered_type (scope_of context) list form l r two.middle judged.stop in
-      put_between mid truth_type (right_onward mid number is) (ap (λ (w : Walk). w.fault) is ∙ ready.ready.fresh) goes_on put tt
-      (subst Left lists given.0) (subst Right lists given.1)
-      (right_read_typed (slots_in context) form number l r left_type right_type read)
-
-  pub left_read_between :
-      (mid : Walk) (number : ℤ)
-      → IsLeftRead (slots_in context) form (side_of l left_type) (side_of r right_type) number
-      → mid ≡ record old { list = number_put old.list (judged.number + 1) two.left.found number }
-      → result ≡ true
-      → new ≡ walk_put mid judged form truth_type []
-      → IsNodeJudged context judged (infix_shape form l r) old new result
-  left_read_between mid number read is goes_on put =
-      let given = left_given form number read in
-      let lists : number_put old.list (judged.number + 1) two.left.found number ≡ mid.list = sym (ap (λ (w : Walk). w.list) is) in
-      let Left : FlatTree → Type 0 = λ (list : FlatTree). LeftStands context.schema.now context.filtered_type (scope_of context) list form l r (judged.number + 1) two.middle in
-      let Right : FlatTree → Type 0 = λ (list : FlatTree). RightStands context.schema.now context.filtered_type (scope_of context) list form l r two.middle judged.stop in
-      put_between mid truth_type (left_onward mid number is) (ap (λ (w : Walk). w.fault) is ∙ ready.ready.fresh) goes_on put tt
-      (subst Left lists given.0) (subst Right lists given.1)
-      (left_read_typed (slots_in context) form number l r left_type right_type read)
-
-  -- one is read, and stands for no number
-  pub unknown_between :
-      OneIsRead (LacksNumber (slots_in context)) form (side_of l left_type) (side_of r right_type)
-      → result ≡ false
-      → new ≡ walk_refused old judged.node.now.span TypeFaultCode.UnknownEnum
-      → IsNodeJudged context judged (infix_shape form l r) old new result
-  unknown_between lacks stops is =
-      let slots = slots_in context in
-      let root = root_in context in
-      let scope = scope_of context in
-      refuse_between old TypeFaultCode.UnknownEnum stops is
-      (λ type. unknown_untyped laws slots root scope l r left_type right_type two.left.typed two.right.typed form type lacks)
-      (unknown_reason laws slots root scope l r left_type right_type two.left.typed two.right.typed judged.node.now.span.start judged.node.now.span.stop form lacks)
-
-  -- as the code puts it, or an allocation failed
-  pub right_put : (place : ℕ) (number : ℤ) (done : Bool) → place ≡ two.middle → result ≡ done → IsReadPut old judged form place number new done
-      → IsRightRead (slots_in context) form (side_of l left_type) (side_of r right_type) number → IsNodeJudged context judged (infix_shape form l r) old new result
-  right_put place number true at goes_on put read =
-      right_read_between put.0 number read
-      (subst (λ (k : ℕ). put.0 ≡ record old { list = number_put old.list k two.right.found number }) at (put.1 two.right.found (ap (slice_get old.list.nodes) at ∙ two.right.at)))
-      goes_on put.2
-  right_put place number false at stops put read = unjudged context judged old new (infix_shape form l r) result stops (ap (λ (w : Walk). w.fault) put ∙ ready.ready.fresh)
-
-  pub left_put : (number : ℤ) (done : Bool) → result ≡ done → IsReadPut old judged form (judged.number + 1) number new done
-      → IsLeftRead (slots_in context) form (side_of l left_type) (side_of r right_type) number → IsNodeJudged context judged (infix_shape form l r) old new result
-  left_put number true goes_on put read = left_read_between put.0 number read (put.1 two.left.found two.left.at) goes_on put.2
-  left_put number false stops put read = unjudged context judged old new (infix_shape form l r) result stops (ap (λ (w : Walk). w.fault) put ∙ ready.ready.fresh)
+  read_put place found number true at below above stand makes goes_on put =
+      let is = put.1 found at in
+      let onward : IsOnward judged.number judged.stop old put.0 = rw is (record {
+        kept = kept_wider place (place + 1) judged.number judged.stop old.list (number_put old.list place found number) below (omega arith) (number_changes old.list place found number);
+        navigates = λ idle. idle;
+      }) in
+      put_between put.0 truth_type onward (ap (λ (w : Walk). w.fault) is ∙ ready.ready.fresh) goes_on put.2 tt (subst (Stand form) (sym (ap (λ (w : Walk). w.list) is)) stand) makes
+  read_put place found number false at below above stand makes stops put =
+      unjudged context judged old new (infix_shape form l r) result stops (ap (λ (w : Walk). w.fault) put ∙ ready.ready.fresh)
 
 -- the same by the types of the code, and by what the operands quote there
 module _ (laws : LawsBelow) (context : CheckContext) (judged : Judged) (old new : Walk) (form : NodeKind) (l r : Tree) (result : Bool)
@@ -282,21 +221,36 @@ module _ (laws : LawsBelow) (context : CheckContext) (judged : Judged) (old new 
       → IsReadPut old judged form place number new result
       → IsNodeJudged context judged (infix_shape form l r) old new result
   infix_right place number at is put =
-      right_put laws context judged old new form l r result between ready two place number result at refl put (read_is (OperandRead.Right number) is)
+      let read = read_is (OperandRead.Right number) is in
+      let first : judged.number + 1 < two.middle = two.left.order in
+      read_put laws context judged old new form l r result between ready two two.middle two.right.found number result two.right.at (omega arith) two.right.order
+      (right_given laws context judged old new form l r result between ready two form number read)
+      (right_read_typed (slots_in context) form number l r (expr_type context.schema.now two.left.found.edm_type) (expr_type context.schema.now two.right.found.edm_type) read) refl
+      (subst (λ (k : ℕ). IsReadPut old judged form k number new result) at put)
 
   pub infix_left :
       (number : ℤ)
       → IsOperandRead (slots_in context) form (left_side context.schema.now types) (right_side context.schema.now types) (OperandRead.Left number)
       → IsReadPut old judged form (judged.number + 1) number new result
       → IsNodeJudged context judged (infix_shape form l r) old new result
-  infix_left number is put = left_put laws context judged old new form l r result between ready two number result refl put (read_is (OperandRead.Left number) is)
+  infix_left number is =
+      let read = read_is (OperandRead.Left number) is in
+      let first : judged.number + 1 < two.middle = two.left.order in
+      let second : two.middle < judged.stop = two.right.order in
+      read_put laws context judged old new form l r result between ready two (judged.number + 1) two.left.found number result two.left.at (omega arith) (omega arith)
+      (left_given laws context judged old new form l r result between ready two form number read)
+      (left_read_typed (slots_in context) form number l r (expr_type context.schema.now two.left.found.edm_type) (expr_type context.schema.now two.right.found.edm_type) read) refl
 
   pub infix_unknown :
       IsOperandRead (slots_in context) form (left_side context.schema.now types) (right_side context.schema.now types) OperandRead.Unknown
       → result ≡ false
       → new ≡ walk_refused old judged.node.now.span TypeFaultCode.UnknownEnum
       → IsNodeJudged context judged (infix_shape form l r) old new result
-  infix_unknown is = unknown_between laws context judged old new form l r result between ready two (read_is OperandRead.Unknown is)
+  infix_unknown is stops refused =
+      let lacks = read_is OperandRead.Unknown is in
+      refuse_between laws context judged old new form l r result between ready two old TypeFaultCode.UnknownEnum stops refused
+      (λ type. unknown_untyped laws (slots_in context) (root_in context) (scope_of context) l r _ _ two.left.typed two.right.typed form type lacks)
+      (unknown_reason laws (slots_in context) (root_in context) (scope_of context) l r _ _ two.left.typed two.right.typed judged.node.now.span.start judged.node.now.span.stop form lacks)
 
 -- an operator between operands of which none may be read
 pub operator_unread :

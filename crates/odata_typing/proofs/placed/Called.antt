@@ -8,7 +8,7 @@ use Rattle.odata_signatures.specs.declared.function.Function.{Function}
 use Rattle.odata_signatures.specs.declared.refusal.TypeFaultCode.{TypeFaultCode}
 use Rattle.odata_checked_filter.specs.declared.checked_node.NodeKind.{NodeKind}
 use Rattle.odata_typing.proofs.calls.FewArguments.{reason_by_first, typed_by_first, untyped_by_first}
-use Rattle.odata_typing.proofs.flat.Closing.{put_tree, refused_tree, root_in, slots_in}
+use Rattle.odata_typing.proofs.flat.Closing.{put_changed, refused_tree, root_in, slots_in}
 use Rattle.odata_typing.proofs.flat.Idle.{idle_call}
 use Rattle.odata_typing.proofs.flat.Kept.{same_more}
 use Rattle.odata_typing.proofs.placed.Rows.{IsRowOf, types_of}
@@ -40,7 +40,7 @@ module _ (laws : LawsBelow) (context : CheckContext) (judged : Judged) (old new 
       let schema = context.schema.now in
       let span = judged.node.now.span in
       let makes_first : FunctionTyped function (take 4 (types_of schema row)) (expr_type schema type) = subst (λ (ts : List ExprType). FunctionTyped function ts (expr_type schema type)) (first_of_row schema types row first) makes in
-      put_tree context judged laws old old new (call asked (trees_of_list arguments)) kind type result ready (same_more old) ready.ready.fresh goes_on put there of_kind tt
+      put_changed context judged laws old old new (call asked (trees_of_list arguments)) kind type result ready (same_more old judged.number judged.stop) ready.ready.fresh goes_on put there of_kind tt
       (record {
         types = types_of schema row;
         arguments_typed = is.typed;

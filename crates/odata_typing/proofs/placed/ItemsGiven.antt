@@ -1,8 +1,8 @@
 -- What stands for the items of a list: each that is read has been given its number.
-use Rattle.odata_typing.proofs.Common.{◌≡◌, ◌∙◌, sym, ap, subst, inl, inr, ℕ, ◌<◌, ◌≤◌, ◌+◌, List, [], ◌∷◌, Option, Some, slice_get, arith, same_Some, Tree, trees_of_list, ExprType, SchemaModel, slots_of, type_name_at, IsResolvedBy, ResolvedNumber, Side, quoting, expr_type, quoted_text, Scope, Typed, CheckedNode, FlatTree, IsKeptOutside, AllStand, ResolvedStands, ItemsStand, NumberStands, Stands, Walk, IsStanding, StandInRow, LawsBelow, AreInRow, quoted_in}
+use Rattle.odata_typing.proofs.Common.{◌≡◌, ◌∙◌, sym, ap, subst, inl, inr, ℕ, ◌<◌, ◌≤◌, ◌+◌, List, [], ◌∷◌, Option, Some, slice_get, arith, same_Some, Tree, trees_of_list, ExprType, SchemaModel, slots_of, type_name_at, IsResolvedBy, ResolvedNumber, Side, quoting, expr_type, quoted_text, Scope, Typed, CheckedNode, FlatTree, IsKeptOutside, AllStand, ResolvedStands, ItemsStand, Stands, Walk, IsStanding, StandInRow, LawsBelow, AreInRow, quoted_in}
 use Rattle.odata_typing.specs.private.Items.{AreItemsRead, IsItemRead, IsUnreadLeft}
-use Rattle.odata_typing.proofs.resolved_operands.Given.{number_changes, number_given, number_kept}
-use Rattle.odata_typing.proofs.resolved_operands.Numbers.{is_read, reading, reads_none}
+use Rattle.odata_typing.proofs.resolved_operands.Given.{number_changes, number_given}
+use Rattle.odata_typing.proofs.resolved_operands.Numbers.{reads_none}
 use Rattle.odata_typing.proofs.flat.Kept.{IsOnward, kept_on, kept_wider, same_kept, standing_kept}
 use Rattle.odata_typing.proofs.placed.Quoted.{quoted_standing}
 use Rattle.odata_typing.proofs.placed.Rows.{row_of, row_onward}
@@ -61,12 +61,10 @@ module _ (laws : LawsBelow) (schema : SchemaModel) (n : ℕ) (scope : Scope) (l 
       → ResolvedStands schema n scope new ResolvedLeft tree (λ a b. Stands schema n scope new a b tree) i m
   one_stands walk mid new i m j tree found quoted type first at quotes (inl read) kept =
       let number : ResolvedNumber (slots_of schema) left (quoted_text tree) read.0 = subst (λ (q : Option (List ℕ)). ResolvedNumber (slots_of schema) left q read.0) quotes read.1 in
-      let is = reading left (quoted_text tree) (is_read (slots_of schema) left (quoted_text tree) read.0 number) in
-      let given = number_given schema n scope walk.list i m tree found is.spelling read.0 is.quotes at first.stands in
       inl (
         read.0,
         record { type_of = left; beside = left_typed; number = number },
-        number_kept schema n scope mid new m j i m tree read.0 kept (inl (omega arith)) (subst (λ (list : FlatTree). NumberStands schema n scope list read.0 i m tree) (sym read.2) given),
+        number_given schema n scope walk.list new i m m j tree found left read.0 number at (subst (λ (list : FlatTree). IsKeptOutside m j list new) read.2 kept) first.order first.stands,
       )
   one_stands walk mid new i m j tree found quoted type first at quotes (inr none) kept =
       let there = subst (λ (list : FlatTree). Stands schema n scope list i m tree) (sym none.1) first.stands in

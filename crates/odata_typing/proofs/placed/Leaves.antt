@@ -10,7 +10,7 @@ use Rattle.odata_signatures.specs.NeededPaths.{Navigates}
 use Rattle.odata_signatures.specs.declared.refusal.TypeFaultCode.{TypeFaultCode}
 use Rattle.odata_checked_filter.specs.declared.checked_node.NodeKind.{NodeKind}
 use Rattle.odata_typing.specs.private.Answer.{IsReading}
-use Rattle.odata_typing.proofs.flat.Closing.{put_tree, refused_tree, root_in, slots_in, some_at, tree_over, value_put, valued_more}
+use Rattle.odata_typing.proofs.flat.Closing.{put_changed, refused_tree, root_in, slots_in, some_at, tree_over, value_put, valued_more}
 use Rattle.odata_typing.proofs.flat.Idle.{idle_step}
 use Rattle.odata_typing.proofs.flat.Kept.{IsMore, same_more, standing_kept}
 use Rattle.odata_typing.proofs.untypable.Names.{first_name}
@@ -32,7 +32,7 @@ module _ (laws : LawsBelow) (context : CheckContext) (judged : Judged) (old new 
       → IsNodeJudged context judged (literal kind (name_of context judged)) old new result
   literal_put mid kind value type place text leaf reading there at is_valued goes_on same is =
       let spelling : List ℕ = name_of context judged in
-      put_tree context judged laws old mid new (literal kind spelling) (NodeKind.Literal kind place) type result ready (valued_more old mid value is_valued)
+      put_changed context judged laws old mid new (literal kind spelling) (NodeKind.Literal kind place) type result ready (valued_more old mid value is_valued judged.number judged.stop)
       (ap (λ (w : Walk). w.fault) is_valued ∙ ready.ready.fresh) goes_on
       (subst (λ (t : List ℕ). new ≡ walk_put mid judged (NodeKind.Literal kind place) type t) same is)
       there
@@ -46,7 +46,7 @@ module _ (laws : LawsBelow) (context : CheckContext) (judged : Judged) (old new 
       → new ≡ walk_put old judged NodeKind.It (EdmType.Single (ValueType.Structured context.filtered_type)) []
       → IsNodeJudged context judged it old new result
   it_put leaf goes_on is =
-      put_tree context judged laws old old new it NodeKind.It (EdmType.Single (ValueType.Structured context.filtered_type)) result ready (same_more old) ready.ready.fresh goes_on is
+      put_changed context judged laws old old new it NodeKind.It (EdmType.Single (ValueType.Structured context.filtered_type)) result ready (same_more old judged.number judged.stop) ready.ready.fresh goes_on is
       tt refl tt refl (sym leaf) (λ idle paths path needed. needed)
 
   -- a name, of a variable or of a property
@@ -64,7 +64,7 @@ module _ (laws : LawsBelow) (context : CheckContext) (judged : Judged) (old new 
       → new ≡ walk_put mid judged kind type text
       → IsNodeJudged context judged (name (name_of context judged)) old new result
   name_put mid kind type text leaf more fresh named typed there idle goes_on same is =
-      put_tree context judged laws old mid new (name (name_of context judged)) kind type result ready more fresh goes_on
+      put_changed context judged laws old mid new (name (name_of context judged)) kind type result ready (more judged.number judged.stop) fresh goes_on
       (subst (λ (t : List ℕ). new ≡ walk_put mid judged kind type t) same is) there named tt typed (sym leaf) idle
 
 -- a fault with that reason and that span is the first of the name
@@ -104,8 +104,8 @@ module _ (laws : LawsBelow) (context : CheckContext) (judged : Judged) (old new 
       let owner_name : List ℕ = type_name_at schema owner in
       let typed : Typed (slots_in context) (root_in context) (scope_of context) base (single (structured owner_name)) =
       subst (λ (t : EdmType). Typed (slots_in context) (root_in context) (scope_of context) base (expr_type schema t)) of_owner stands.typed in
-      let now = standing_kept laws schema context.filtered_type (scope_of context) 0 0 old mid more (judged.number + 1) judged.stop base (inr (omega arith)) stands in
-      put_tree context judged laws old mid new (member base asked) (NodeKind.Member slot) type result ready more fresh goes_on
+      let now = standing_kept laws schema context.filtered_type (scope_of context) 0 0 old mid (more 0 0) (judged.number + 1) judged.stop base (inr (omega arith)) stands in
+      put_changed context judged laws old mid new (member base asked) (NodeKind.Member slot) type result ready (more judged.number judged.stop) fresh goes_on
       (subst (λ (t : List ℕ). new ≡ walk_put mid judged (NodeKind.Member slot) type t) same is) there
       (owner_name, typed, slot_is) tt
       (record { operand = single (structured owner_name); operand_typed = typed; makes = makes })

@@ -6,7 +6,7 @@ use Rattle.odata_signatures.specs.declared.refusal.TypeFaultCode.{TypeFaultCode}
 use Rattle.odata_checked_filter.specs.declared.checked_node.NodeKind.{NodeKind}
 use Rattle.odata_typing.specs.declared.in_list.ItemsFit.{ItemsFit}
 use Rattle.odata_typing.specs.private.Items.{AllItemsFor, AreItemsFit, AreItemsPut, AreListFit, IsUnreadLeft, OneLacks}
-use Rattle.odata_typing.proofs.flat.Closing.{more_within, put_changed, refused_tree, root_in, slots_in, unjudged}
+use Rattle.odata_typing.proofs.flat.Closing.{put_changed, refused_tree, root_in, slots_in, unjudged}
 use Rattle.odata_typing.proofs.flat.Idle.{idle_list}
 use Rattle.odata_typing.proofs.flat.Kept.{IsOnward, kept_wider, same_more}
 use Rattle.odata_typing.proofs.resolved_operands.Items.{lacks_one, numbered_typed, one_lacks, unknown_untyped, unread_lacks_none}
@@ -81,7 +81,7 @@ module _ (laws : LawsBelow) (context : CheckContext) (judged : Judged) (old new 
       → IsNodeJudged context judged (in_list l (trees_of_list items)) old new result
   judged_unnumbered ItemsFit.All unread fits goes_on is =
       let beside : AllItemsFor (slots_in context) left_type (sides_of (trees_of_list items) item_types) = subst (λ (sides : List Side). AllItemsFor (slots_in context) left_type sides) list.is.sides fits.1 in
-      put_items old (more_within judged.number judged.stop old old (same_more old)) ready.ready.fresh (goes_on.1 refl) is list.left.stands
+      put_items old (same_more old judged.number judged.stop) ready.ready.fresh (goes_on.1 refl) is list.left.stands
       (items_alone laws context.schema.now context.filtered_type (scope_of context) l left_type list.left.typed old.list list.middle judged.stop items unread list.is.stand)
       (fits.0, beside, refl)
   judged_unnumbered ItemsFit.Refused unread fits goes_on is =

@@ -4,10 +4,10 @@ use Rattle.odata_signatures.specs.declared.edm_type.EdmType.{EdmType}
 use Rattle.odata_signatures.specs.declared.refusal.TypeFaultCode.{TypeFaultCode}
 use Rattle.odata_checked_filter.specs.declared.checked_node.NodeKind.{NodeKind}
 use Rattle.odata_typing.specs.declared.unary_node.Unary.{Unary}
-use Rattle.odata_typing.proofs.flat.Closing.{IsPutFor, put_tree, refused_tree, root_in, slots_in}
+use Rattle.odata_typing.proofs.flat.Closing.{IsPutFor, put_changed, refused_tree, root_in, slots_in}
 use Rattle.odata_typing.proofs.flat.Idle.{idle_over}
 use Rattle.odata_typing.proofs.flat.Kept.{same_more}
-use Rattle.odata_typing.proofs.forms.Unary.{unary_of_kind, unary_stands, unary_text, unary_typed, unary_valued}
+use Rattle.odata_typing.proofs.forms.Unary.{unary_of_kind, unary_stands, unary_text, unary_types, unary_valued}
 use Rattle.odata_typing.proofs.untypable.Operands.{refused_over}
 
 -- the only child is all the nodes after the node
@@ -31,11 +31,11 @@ module _ (laws : LawsBelow) (context : CheckContext) (judged : Judged) (old new 
       let root = root_in context in
       let scope = scope_of context in
       let span = judged.node.now.span in
-      put_tree context judged laws old old new (unary_shape unary operand) (unary_kind unary) type result ready (same_more old) ready.ready.fresh goes_on
+      put_changed context judged laws old old new (unary_shape unary operand) (unary_kind unary) type result ready (same_more old judged.number judged.stop) ready.ready.fresh goes_on
       (subst (λ (text : List ℕ). new ≡ walk_put old judged (unary_kind unary) type text) (sym (unary_text unary operand)) is)
       there
       (unary_of_kind slots root scope unary operand) (unary_valued old.list.values slots unary operand)
-      (unary_typed slots root scope span.start span.stop unary operand (expr_type context.schema.now type)
+      ((unary_types slots root scope span.start span.stop unary operand (expr_type context.schema.now type)).1
       (record { operand = expr_type context.schema.now stands.found.edm_type; operand_typed = stands.typed; makes = makes }))
       (unary_stands context.schema.now context.filtered_type scope old.list (judged.number + 1) judged.stop unary operand stands.stands)
       (λ idle. idle_over slots root scope span.start span.stop unary operand (stands.idle idle))

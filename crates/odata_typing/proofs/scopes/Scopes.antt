@@ -1,5 +1,5 @@
 -- The scope of range variables, and what a name stands for in it.
-use Rattle.odata_typing.proofs.Common.{◌≡◌, ◌∙◌, ◌+◌, ℕ, suc, Bor, IfSome, SomeIff, arith, List, [], ◌∷◌, Option, Some, None, MatchOption, Result, Ok, Err, IfOk, true, false, length, refl, sym, ap, subst, rules, variable_names, ExprType, SchemaModel, Slots, expr_type, NameTyped, PropertyTyped, Scope, variable_type, with_variable, AreThere, IsNamedBy, scope_in, types_in}
+use Rattle.odata_typing.proofs.Common.{◌≡◌, ◌∙◌, ◌+◌, ℕ, suc, Bor, IfSome, SomeIff, arith, List, [], Option, Some, None, MatchOption, Result, Ok, Err, IfOk, true, false, length, refl, sym, ap, subst, rules, variable_names, ExprType, SchemaModel, Slots, expr_type, NameTyped, PropertyTyped, Scope, variable_type, with_variable, AreThere, IsNamedBy, scope_in, types_in, ◌↔◌}
 use Rattle.std.proofs.Common.{nat_eq}
 use Rattle.std.specs.Cmp.Lexicographic.{pointwise}
 use Rattle.std.specs.declared.alloc.AllocError.{AllocError}
@@ -28,26 +28,16 @@ count_more schema name type outer n fits None of_outer is = tt
 types_in-Empty : types_in Empty ≡ []
 types_in-Empty = search (rules, the_lemmas)
 
-pub types_in-Bound : (name : Bor (List ℕ)) (type : EdmType) (outer : Bor Variables) → types_in (Bound name type outer) ≡ type ∷ types_in outer.now
-types_in-Bound name type outer = search (rules, the_lemmas)
-
 pub none_there : (schema : SchemaModel) → AreThere schema Empty
 none_there schema = rw types_in-Empty tt
-
--- a variable of another name says nothing of a name
-pub other_named : (schema : SchemaModel) (name : Bor (List ℕ)) (type : EdmType) (outer : Bor Variables) (asked : List ℕ) (found : Option NamedVariable)
-    → pointwise nat_eq asked name.now ≡ false
-    → IsNamedBy schema (scope_in schema outer.now) asked found
-    → IsNamedBy schema (scope_in schema (Bound name type outer)) asked found
-other_named schema name type outer asked (Some v) other is = rw (scope_in-Bound schema name type outer, other) is
-other_named schema name type outer asked None other is = rw (scope_in-Bound schema name type outer, other) is
 
 pub named_outside :
     (schema : SchemaModel) (name : Bor (List ℕ)) (type : EdmType) (outer : Bor Variables) (asked : List ℕ) (found : Result (Option NamedVariable) AllocError)
     → pointwise nat_eq asked name.now ≡ false
     → IfOk found (IsNamedBy schema (scope_in schema outer.now) asked)
     → IfOk found (IsNamedBy schema (scope_in schema (Bound name type outer)) asked)
-named_outside schema name type outer asked (Ok named) other is = other_named schema name type outer asked named other is
+named_outside schema name type outer asked (Ok (Some v)) other is = rw (scope_in-Bound schema name type outer, other) is
+named_outside schema name type outer asked (Ok None) other is = rw (scope_in-Bound schema name type outer, other) is
 named_outside schema name type outer asked (Err refused) other is = tt
 
 -- one of that name is what it stands for
@@ -60,21 +50,13 @@ same_named schema name type outer asked variable same level is =
     rw (scope_in-Bound schema name type outer, same) (ap (λ (n : ℕ). Some n) (sym level), ap (λ (t : EdmType). Some (expr_type schema t)) (sym is))
 
 -- a name that no variable has is a property's
-pub unbound_typed :
+pub unbound_types :
     (slots : Slots) (root : List ℕ) (scope : Scope) (asked : List ℕ) (type : ExprType)
     → variable_type scope asked ≡ None
-    → PropertyTyped (slots.properties root) asked type
-    → NameTyped slots root scope asked type
-unbound_typed slots root scope asked type none typed =
-    subst (λ (o : Option ExprType). MatchOption o (PropertyTyped (slots.properties root) asked type) (λ t. type ≡ t)) (sym none) typed
-
-pub unbound_only :
-    (slots : Slots) (root : List ℕ) (scope : Scope) (asked : List ℕ) (type : ExprType)
-    → variable_type scope asked ≡ None
-    → NameTyped slots root scope asked type
-    → PropertyTyped (slots.properties root) asked type
-unbound_only slots root scope asked type none typed =
-    subst (λ (o : Option ExprType). MatchOption o (PropertyTyped (slots.properties root) asked type) (λ t. type ≡ t)) none typed
+    → NameTyped slots root scope asked type ↔ PropertyTyped (slots.properties root) asked type
+unbound_types slots root scope asked type none =
+    let Property : Type 0 = PropertyTyped (slots.properties root) asked type in
+    subst (λ (o : Option ExprType). MatchOption o Property (λ t. type ≡ t) ↔ Property) (sym none) (λ typed. typed, λ typed. typed)
 
 -- one that a variable has is of its type
 pub bound_typed :

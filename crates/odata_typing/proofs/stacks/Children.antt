@@ -1,5 +1,5 @@
 -- The children of a node are the last trees before it.
-use Rattle.odata_typing.proofs.Common.{◌≡◌, refl, ap, sym, ◌∙◌, ℕ, zero, suc, ◌+◌, ◌-◌, ◌≤◌, List, [], ◌∷◌, ◌++◌, reverse, take, drop, length, length-drop, arith, drop-drop, reverse-append, Texts, child_count, last_tree, shape_over, tree_count_back, trees_back, trees_before, trees_left, children_of, list_of_trees, Tree, trees_of_list, SyntaxNode}
+use Rattle.odata_typing.proofs.Common.{◌≡◌, refl, ap, sym, ◌∙◌, ℕ, zero, suc, ◌+◌, ◌-◌, ◌≤◌, List, [], ◌∷◌, ◌++◌, reverse, take, drop, length, length-drop, arith, drop-drop, reverse-append, child_count, last_tree, shape_over, tree_count_back, trees_before, trees_left, children_of, list_of_trees, Tree, trees_of_list, SyntaxNode, rules, Texts, trees_back}
 use Rattle.odata_syntax.specs.declared.syntax_list.SyntaxKind.{SyntaxKind}
 use Rattle.odata_typing.proofs.stacks.Stacks.{roots_from}
 
@@ -7,7 +7,7 @@ pub listed_again : (trees : List Tree) → list_of_trees (trees_of_list trees) �
 listed_again [] = refl
 listed_again (tree ∷ trees) = ap (λ (ts : List Tree). tree ∷ ts) (listed_again trees)
 
-before_is : (trees : List Tree) → trees_before trees ≡ drop 1 trees
+pub before_is : (trees : List Tree) → trees_before trees ≡ drop 1 trees
 before_is [] = refl
 before_is (tree ∷ trees) = refl
 
@@ -65,7 +65,6 @@ children_over SyntaxKind.Call text items trees enough = listed_again (reverse (t
 children_over (SyntaxKind.Lambda quantifier) text items trees enough = two_are trees enough
 children_over _ text items trees enough = one_is trees enough
 
--- as many trees as there are roots
 pub trees_count : (names : Texts) (earlier : List SyntaxNode) → length (trees_back names earlier) ≡ tree_count_back earlier
 trees_count names [] = refl
 trees_count names (n ∷ earlier) =

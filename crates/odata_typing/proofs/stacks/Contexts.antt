@@ -1,28 +1,20 @@
 -- What is known of the nodes of a run.
-use Rattle.odata_typing.proofs.Common.{◌≡◌, ◌≢◌, ap, sym, subst, ◌∙◌, ℕ, suc, ◌+◌, ◌-◌, ◌<◌, ◌≤◌, List, [], ◌∷◌, Some, reverse, take, length, slice_get, arith, length-reverse, take_all, slice_get_within, BeginsBody, IsPlaced, first_at, lambda_at, nodes_before, number_at, places_of, stop_at, AreFedBack, IsWholeTree, child_count, last_tree, tree_count_back, trees_back, IsWithin, is_root, text_in, Tree, SyntaxNode, Judged, CheckContext, Walk, IsNodeAt, IsNodeReady, IsReady, IsRun, IsContext, run_tree, whole_tree}
-use Rattle.std.specs.List.{slice_range}
+use Rattle.odata_typing.proofs.Common.{◌≡◌, ◌≢◌, ap, sym, subst, ◌∙◌, ℕ, ◌+◌, ◌-◌, ◌<◌, ◌≤◌, List, [], ◌∷◌, Some, reverse, take, length, slice_get, arith, take_all, slice_get_within, BeginsBody, first_at, lambda_at, nodes_before, number_at, places_of, stop_at, AreFedBack, IsWholeTree, child_count, tree_count_back, IsWithin, is_root, text_in, Tree, SyntaxNode, Judged, CheckContext, Walk, IsNodeAt, IsNodeReady, IsReady, IsRun, IsContext, run_tree, whole_tree, listed_tree, slice_range, length-reverse}
 use Rattle.odata_syntax.specs.declared.syntax_list.SyntaxKind.{SyntaxKind}
 use Rattle.odata_typing.proofs.stacks.Children.{roots_count}
 use Rattle.odata_typing.proofs.stacks.Marks.{IsBodyWithin, earlier_fed_back, few_trees}
-use Rattle.odata_typing.proofs.stacks.Placed.{tiled}
-use Rattle.odata_typing.proofs.stacks.Slices.{before_joined, before_length, before_more, run_all, run_joined, run_more}
+use Rattle.odata_typing.proofs.stacks.Placed.{node_within, tiled}
+use Rattle.odata_typing.proofs.stacks.Slices.{before_joined, before_length, before_more, run_joined, run_more}
 use Rattle.odata_typing.proofs.stacks.Stacks.{begin_of, roots_from, run_before}
-use Rattle.odata_typing.proofs.stacks.TreeRuns.{IsWholeRun, first_begins, run_within, tree_run}
-
--- all nodes
-all_nodes : (nodes : List SyntaxNode) → nodes_before nodes (length nodes) ≡ reverse nodes
-all_nodes nodes = ap (λ (ns : List SyntaxNode). reverse ns) (take_all (length nodes) nodes (omega arith))
+use Rattle.odata_typing.proofs.stacks.TreeRuns.{first_begins, run_within, tree_run}
 
 -- each front of the list is fed
 pub fed_before : (context : CheckContext) (index : ℕ) → IsContext context → index ≤ length context.nodes.now → AreFedBack (nodes_before context.nodes.now index)
 fed_before context index is inside =
     let nodes = context.nodes.now in
-    let all : AreFedBack (nodes_before nodes (length nodes)) = subst (λ (ns : List SyntaxNode). AreFedBack ns) (sym (all_nodes nodes)) is.whole.fed in
+    let all : AreFedBack (nodes_before nodes (length nodes)) = subst (λ (ns : List SyntaxNode). AreFedBack (reverse ns)) (sym (take_all (length nodes) nodes (omega arith))) is.whole.fed in
     earlier_fed_back (run_before nodes index (length nodes)) (nodes_before nodes index)
     (subst (λ (ns : List SyntaxNode). AreFedBack ns) (before_joined nodes index (length nodes) inside) all)
-
-pub whole_run : (context : CheckContext) (from stop : ℕ) → IsRun context from stop → IsWholeRun (run_before context.nodes.now from stop)
-whole_run context from stop run = record { fed = run.whole.fed; one = run.whole.one }
 
 -- so is each front of a run
 pub fed_within :
@@ -60,10 +52,9 @@ node_ready context walk index judged is ready at =
     let nodes = context.nodes.now in
     let places = places_of context.nodes.now in
     let inside : index < length nodes = slice_get_within nodes index judged.node.now at.at in
-    let count : length (nodes_before nodes index) ≡ index = before_length nodes index (omega arith) in
-    let placed : IsPlaced places judged.node.now (nodes_before nodes index) = is.places.placed index judged.node.now at.at in
-    let first : first_at places index ≤ index = subst (λ (k : ℕ). first_at places k ≤ k) count placed.order in
-    let last : stop_at places index ≤ length places = subst (λ (k : ℕ). stop_at places k ≤ length places) count placed.within in
+    let within = node_within nodes places index judged.node.now is.places at.at in
+    let first : first_at places index ≤ index = within.0 in
+    let last : stop_at places index ≤ length places = within.1 in
     let own : number_at places index < stop_at places index = omega arith in
     let number : judged.number ≡ number_at places index = at.number in
     let stop : judged.stop ≡ stop_at places index = at.stop in
@@ -71,19 +62,15 @@ node_ready context walk index judged is ready at =
     let all : length walk.list.nodes ≡ length nodes = ready.count in
     record { ready = ready; order = omega arith; inside = omega arith }
 
--- the tree of all nodes
-pub whole_is : (context : CheckContext) → last_tree (trees_back (text_in context.text.now) (run_before context.nodes.now 0 (length context.nodes.now))) ≡ whole_tree context
-whole_is context =
-    ap (λ (ns : List SyntaxNode). last_tree (trees_back (text_in context.text.now) ns)) (run_all context.nodes.now (length context.nodes.now) ∙ all_nodes context.nodes.now)
+-- all nodes
+pub all_nodes : (nodes : List SyntaxNode) → slice_range nodes 0 (length nodes) ≡ nodes
+all_nodes nodes = ap (λ (k : ℕ). take k nodes) (omega arith) ∙ take_all (length nodes) nodes (omega arith)
 
-all_whole : (context : CheckContext) → IsContext context → IsWholeRun (run_before context.nodes.now 0 (length context.nodes.now))
-all_whole context is =
-    let nodes = context.nodes.now in
-    let all : run_before nodes 0 (length nodes) ≡ reverse nodes = run_all nodes (length nodes) ∙ all_nodes nodes in
-    record {
-      fed = subst (λ (ns : List SyntaxNode). AreFedBack ns) (sym all) is.whole.fed;
-      one = subst (λ (ns : List SyntaxNode). tree_count_back ns ≡ 1) (sym all) is.whole.one;
-    }
+pub whole_is : (context : CheckContext) → run_tree context 0 (length context.nodes.now) ≡ whole_tree context
+whole_is context = ap (listed_tree context.text.now) (all_nodes context.nodes.now)
+
+all_whole : (context : CheckContext) → IsContext context → IsWholeTree (slice_range context.nodes.now 0 (length context.nodes.now))
+all_whole context is = subst IsWholeTree (sym (all_nodes context.nodes.now)) is.whole
 
 -- the body of a lambda expression within a run is a run
 pub body_run :
@@ -102,7 +89,7 @@ body_run context index stop lambda is inside mark body =
     record {
       order = order;
       inside = omega arith;
-      whole = record { fed = whole.fed; one = whole.one };
+      whole = whole;
       begins = body.begins;
       outer = λ marked. omega arith;
       within = subst (λ (t : Tree). IsWithin (run_tree context index lambda) t) (whole_is context) part;
@@ -126,8 +113,8 @@ first_unmarked context is marked =
     let inside : last < length nodes = slice_get_within nodes last n body.at in
     let earlier = nodes_before nodes last in
     let long : length earlier ≡ last = before_length nodes last (omega arith) in
-    let next : nodes_before nodes (suc last) ≡ n ∷ earlier = before_more nodes last n body.at in
-    let fed : AreFedBack (n ∷ earlier) = subst (λ (ns : List SyntaxNode). AreFedBack ns) next (fed_before context (suc last) is (omega arith)) in
+    let next : nodes_before nodes (last + 1) ≡ n ∷ earlier = before_more nodes last n body.at in
+    let fed : AreFedBack (n ∷ earlier) = subst (λ (ns : List SyntaxNode). AreFedBack ns) next (fed_before context (last + 1) is (omega arith)) in
     let fits : child_count n.kind n.count ≤ tree_count_back earlier = fed.0 in
     let two : child_count n.kind n.count ≡ 2 = ap (λ (k : SyntaxKind). child_count k n.count) body.is_lambda in
     let count : length (roots_from 0 earlier) ≡ tree_count_back earlier = roots_count 0 earlier in
@@ -146,13 +133,12 @@ whole_list_run context is =
     let one : tree_count_back (reverse nodes) ≡ 1 = is.whole.one in
     let few : tree_count_back (reverse nodes) ≤ length (reverse nodes) = few_trees (reverse nodes) in
     let turned : length (reverse nodes) ≡ count = length-reverse nodes in
-    let all : slice_range nodes 0 count ≡ nodes = ap (λ (k : ℕ). take k nodes) (omega arith) ∙ take_all count nodes (omega arith) in
     let number : number_at places (count - 1) ≡ 0 = is.places.root in
     let stop : stop_at places (count - 1) ≡ count = is.places.whole in
     record {
       order = omega arith;
       inside = omega arith;
-      whole = subst (λ (ns : List SyntaxNode). IsWholeTree ns) (sym all) is.whole;
+      whole = all_whole context is;
       begins = omega arith;
       outer = λ marked. absurd (first_unmarked context is marked);
       within = subst (λ (t : Tree). IsWithin (run_tree context 0 count) t) (whole_is context) is_root;

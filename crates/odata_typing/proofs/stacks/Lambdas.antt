@@ -1,18 +1,23 @@
 -- The walk over a run: a lambda expression whose body begins at an index.
-use Rattle.odata_typing.proofs.Common.{◌≡◌, ◌≢◌, refl, ap, sym, subst, ◌∙◌, ℕ, suc, ◌+◌, ◌-◌, ◌<◌, ◌≤◌, List, [], ◌∷◌, ◌++◌, Some, take, drop, length, slice_get, arith, AreBefore, AreSideBySide, lambda_at, number_at, places_of, stop_at, Texts, child_count, last_tree, shape_over, trees_back, trees_left, tree_count_back, HasText, text_in, Shape, Tree, lambda, node, Quantifier, Place, SyntaxNode, Judged, CheckContext, Walk, IsStanding, IsNodeAt, IsReady, IsRun, IsContext, run_tree, scope_of}
+use Rattle.odata_typing.proofs.Common.{◌≡◌, ◌≢◌, refl, ap, sym, subst, ◌∙◌, ℕ, suc, ◌+◌, ◌-◌, ◌<◌, ◌≤◌, List, [], ◌∷◌, ◌++◌, Some, take, drop, length, slice_get, arith, AreBefore, AreSideBySide, lambda_at, number_at, places_of, stop_at, Texts, child_count, last_tree, shape_over, trees_back, trees_left, tree_count_back, HasText, text_in, Shape, Tree, lambda, node, Quantifier, Place, SyntaxNode, Judged, CheckContext, Walk, IsStanding, IsNodeAt, IsReady, IsRun, IsContext, run_tree, scope_of, slice_range, name_of}
 use Rattle.odata_syntax.specs.declared.syntax_list.SyntaxKind.{SyntaxKind}
 use Rattle.odata_typing.specs.private.LambdaNode.{IsLambdaReady}
-use Rattle.odata_typing.proofs.stacks.Children.{roots_count, trees_count}
+use Rattle.odata_typing.proofs.stacks.Children.{before_is, roots_count, trees_count}
 use Rattle.odata_typing.proofs.stacks.FirstFault.{none_after}
 use Rattle.odata_typing.proofs.stacks.Judged.{judged_drop}
 use Rattle.odata_typing.proofs.stacks.Marks.{IsBodyWithin, IsMarked, body_within}
 use Rattle.odata_typing.proofs.stacks.Ranges.{one_root}
 use Rattle.odata_typing.proofs.stacks.Runs.{roots_apart}
-use Rattle.odata_typing.proofs.stacks.Contexts.{body_run, node_ready, whole_run}
+use Rattle.odata_typing.proofs.stacks.Contexts.{body_run, node_ready}
 use Rattle.odata_typing.proofs.stacks.Slices.{run_joined, run_length, run_more}
 use Rattle.odata_typing.proofs.stacks.Stacks.{roots_from, run_before}
-use Rattle.odata_typing.proofs.stacks.TreeRuns.{IsWholeRun, one_more_tree}
-use Rattle.odata_typing.proofs.stacks.Walking.{AreTreesJudged, IsJoin, IsOver, IsWalking, node_over, ready_still, run_roots, run_trees}
+use Rattle.odata_typing.proofs.stacks.TreeRuns.{one_more_tree}
+use Rattle.odata_typing.proofs.stacks.Walking.{AreTreesJudged, IsOver, IsStep, IsWalking, judged_tree, node_over, ready_still, run_roots, run_trees}
+
+-- the shape of a lambda expression over a base and a body
+abbrev pub lambda_at_last : CheckContext → ℕ → ℕ → ℕ → Quantifier → Judged → Shape
+lambda_at_last context from index last quantifier judged =
+    lambda quantifier (last_tree (run_trees context from index)) (name_of context judged) (run_tree context index last)
 
 -- the last root and the last tree of some, and the others
 pub record HasLast (roots : List ℕ) (trees : List Tree) : Type 0 where
@@ -54,7 +59,7 @@ over_runs context from index stop is run later before marked =
     let order : index < last = body.order in
     let within : last < stop = body.within in
     let own : IsRun context index last = body_run context index stop last is inside refl body in
-    let whole : IsWholeRun (run_before nodes index last) = whole_run context index last own in
+    let whole = own.whole in
     let n = body.node in
     let two : child_count n.kind n.count ≡ 2 = ap (λ (k : SyntaxKind). child_count k n.count) body.is_lambda in
     let at_last : IsOver context from last n = node_over context from stop last n is run (omega arith) within body.at in
@@ -70,7 +75,7 @@ over_runs context from index stop is run later before marked =
     ∙ ap (λ (k : ℕ). roots_from k (run_before nodes index last) ++ run_roots context from index) start
     ∙ ap (λ (rs : List ℕ). rs ++ run_roots context from index) one in
     let trees : run_trees context from last ≡ run_tree context index last ∷ run_trees context from index =
-    ap (λ (ns : List SyntaxNode). trees_back names ns) joined ∙ one_more_tree names (run_before nodes index last) (run_before nodes from index) whole in
+    ap (λ (ns : List SyntaxNode). trees_back names ns) joined ∙ one_more_tree names (slice_range nodes index last) (run_before nodes from index) whole in
     let count : length (run_roots context from last) ≡ tree_count_back (run_before nodes from last) = roots_count from (run_before nodes from last) in
     let more : length (run_roots context from last) ≡ suc (length (run_roots context from index)) = ap (λ (rs : List ℕ). length rs) roots in
     let roots_many : length (run_roots context from index) ≡ tree_count_back (run_before nodes from index) = roots_count from (run_before nodes from index) in
@@ -145,31 +150,17 @@ lambda_ready context from index stop last old walk judged quantifier is ready wa
     }
 
 -- and it joins the base with the body
-lambda_shape :
-    (n : SyntaxNode) (names : Texts) (quantifier : Quantifier) (trees : List Tree) (body : Tree)
-    → n.kind ≡ SyntaxKind.Lambda quantifier
-    → shape_over n.kind (names n.text) n.count (body ∷ trees) ≡ lambda quantifier (last_tree trees) (names n.text) body
-lambda_shape n names quantifier trees body is = ap (λ (k : SyntaxKind). shape_over k (names n.text) n.count (body ∷ trees)) is
 
-lambda_leaves :
-    (n : SyntaxNode) (quantifier : Quantifier) (trees : List Tree) (body base : Tree)
-    → n.kind ≡ SyntaxKind.Lambda quantifier
-    → trees ≡ base ∷ drop 1 trees
-    → trees_left n.kind n.count (body ∷ trees) ≡ drop 1 trees
-lambda_leaves n quantifier [] body base is some = absurd (cc)
-lambda_leaves n quantifier (tree ∷ trees) body base is some = ap (λ (k : SyntaxKind). trees_left k n.count (body ∷ tree ∷ trees)) is
-
-pub lambda_joins :
-    (context : CheckContext) (from index stop last : ℕ) (old walk : Walk) (n : SyntaxNode) (quantifier : Quantifier)
+pub lambda_step :
+    (context : CheckContext) (from index stop last : ℕ) (old walk : Walk) (judged : Judged) (quantifier : Quantifier)
     → IsContext context
-    → from < index
     → IsWalking context from stop index old walk
-    → IsOverRuns context from index stop last n quantifier
-    → IsJoin context walk from last
-    (node n.span.start n.span.stop (lambda quantifier (last_tree (run_trees context from index)) (text_in context.text.now n.text) (run_tree context index last)))
-    (drop 1 (run_roots context from index))
-    (drop 1 (run_trees context from index))
-lambda_joins context from index stop last old walk n quantifier is later walking over =
+    → from < index
+    → IsNodeAt context last judged
+    → IsOverRuns context from index stop last judged.node.now quantifier
+    → IsStep context walk from stop last judged (judged_tree judged (lambda_at_last context from index last quantifier judged))
+lambda_step context from index stop last old walk judged quantifier is walking later at over =
+    let n = judged.node.now in
     let nodes = context.nodes.now in
     let places = places_of context.nodes.now in
     let names : Texts = text_in context.text.now in
@@ -182,8 +173,11 @@ lambda_joins context from index stop last old walk n quantifier is later walking
     let left : drop (child_count n.kind n.count) (run_roots context from last) ≡ drop 1 roots =
     ap (λ (k : ℕ). drop k (run_roots context from last)) two ∙ ap (λ (rs : List ℕ). drop 2 rs) over.roots_are in
     record {
-      n = n;
-      at = over.at;
+      roots = drop 1 roots;
+      trees = drop 1 trees;
+      order = omega arith;
+      within = over.body.within;
+      at = at;
       roots_are =
           ap (λ (ns : List SyntaxNode). roots_from from ns) next
           ∙ ap (λ (k : ℕ). k ∷ drop (child_count n.kind n.count) (run_roots context from last)) over.at_last.here
@@ -191,12 +185,11 @@ lambda_joins context from index stop last old walk n quantifier is later walking
       trees_are =
           ap (λ (ns : List SyntaxNode). trees_back names ns) next
           ∙ ap (λ (ts : List Tree). node n.span.start n.span.stop (shape_over n.kind (names n.text) n.count ts) ∷ trees_left n.kind n.count ts) over.trees_are
-          ∙ ap (λ (s : Shape). node n.span.start n.span.stop s ∷ trees_left n.kind n.count (body ∷ trees)) (lambda_shape n names quantifier trees body over.is_lambda)
-          ∙ ap (λ (ts : List Tree). node n.span.start n.span.stop (lambda quantifier (last_tree trees) (names n.text) body) ∷ ts)
-          (lambda_leaves n quantifier trees body (last_tree trees) over.is_lambda over.base.trees_are);
+          ∙ ap (λ (k : SyntaxKind). node n.span.start n.span.stop (shape_over k (names n.text) n.count (body ∷ trees)) ∷ trees_left k n.count (body ∷ trees)) over.is_lambda
+          ∙ ap (λ (ts : List Tree). judged_tree judged (lambda_at_last context from index last quantifier judged) ∷ ts) (before_is trees);
       before =
           subst (λ (k : ℕ). AreBefore places (number_at places k) (drop 1 roots)) over.at_last.here
           (subst (λ (rs : List ℕ). AreBefore places (number_at places (from + length (run_before nodes from last))) rs) left over.at_last.placed.older);
-      judged = judged_drop context.schema.now context.filtered_type (scope_of context) walk places 1 roots trees walking.judged;
+      others = judged_drop context.schema.now context.filtered_type (scope_of context) walk places 1 roots trees walking.judged;
       apart = none_after (IsMarked places) last 0 roots walking.apart;
     }

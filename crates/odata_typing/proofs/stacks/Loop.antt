@@ -4,9 +4,8 @@ use Rattle.std.specs.Option.{option_map}
 use Rattle.odata_syntax.specs.declared.node.LiteralKind.{LiteralKind}
 use Rattle.odata_syntax.specs.declared.syntax_list.SyntaxKind.{SyntaxKind}
 use Rattle.odata_typing.specs.private.LambdaNode.{IsLambdaReady}
-use Rattle.odata_typing.proofs.stacks.Lambdas.{IsOverRuns, lambda_ready, over_runs}
-use Rattle.odata_typing.proofs.stacks.Steps.{IsStep, judged_tree, lambda_at_last, lambda_step}
-use Rattle.odata_typing.proofs.stacks.Walking.{IsWalking, run_trees}
+use Rattle.odata_typing.proofs.stacks.Lambdas.{IsOverRuns, lambda_at_last, lambda_ready, lambda_step, over_runs}
+use Rattle.odata_typing.proofs.stacks.Walking.{IsStep, IsWalking, judged_tree, run_trees}
 
 -- what a read of the nodes gives past their end
 abbrev pub no_node : SyntaxNode
@@ -69,7 +68,7 @@ lambda_there context from stop index old walk is ready run walking inside not_fi
       judged = judged_at context last found.0;
       quantifier = found.1;
       ready = lambda_ready context from index stop last old walk (judged_at context last found.0) found.1 is ready walking at over;
-      step = lambda_step context from stop index last old walk (judged_at context last found.0) found.1 is walking later at over;
+      step = lambda_step context from index stop last old walk (judged_at context last found.0) found.1 is walking later at over;
       later = later;
       order = over.body.order;
       within = over.body.within;

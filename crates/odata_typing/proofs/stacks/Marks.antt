@@ -1,10 +1,10 @@
 -- Where bodies begin: at the marks of the nodes.
-use Rattle.odata_typing.proofs.Common.{◌≡◌, ◌≢◌, refl, ap, subst, ◌∙◌, inl, inr, ℕ, zero, ◌+◌, ◌-◌, ◌<◌, ◌≤◌, List, [], ◌∷◌, ◌++◌, Some, drop, length, length-drop, slice_get, arith, slice_get_cases, slice_get_within, ArePlaces, BeginsBody, IsPlaced, first_at, lambda_at, nodes_before, roots_back, AreFedBack, child_count, tree_count_back, Quantifier, Place, SyntaxNode}
+use Rattle.odata_typing.proofs.Common.{◌≡◌, ◌≢◌, refl, ap, subst, ◌∙◌, inl, inr, ℕ, zero, ◌+◌, ◌-◌, ◌<◌, ◌≤◌, List, [], ◌∷◌, ◌++◌, Some, drop, length, length-drop, slice_get, arith, slice_get_cases, slice_get_within, ArePlaces, BeginsBody, first_at, lambda_at, nodes_before, roots_back, AreFedBack, child_count, tree_count_back, Quantifier, Place, SyntaxNode}
 use Rattle.std.proofs.lemmas.Bool.{cases_lt}
 use Rattle.odata_syntax.specs.declared.syntax_list.SyntaxKind.{SyntaxKind}
 use Rattle.odata_typing.proofs.stacks.Children.{roots_count}
-use Rattle.odata_typing.proofs.stacks.Placed.{AreTiled, roots_joined, tiled}
-use Rattle.odata_typing.proofs.stacks.Slices.{before_joined, before_length, run_each, run_length}
+use Rattle.odata_typing.proofs.stacks.Placed.{AreTiled, node_within, roots_joined, tiled}
+use Rattle.odata_typing.proofs.stacks.Slices.{before_joined, run_each, run_length}
 use Rattle.odata_typing.proofs.stacks.Stacks.{BodiesBegin, IfLambda, begin_of, roots_from, run_before}
 
 -- a body begins with the node of this index
@@ -117,10 +117,7 @@ body_within nodes places from index stop are first later order inside marked =
     let some : lambda ≢ 0 = marked in
     elim (slice_get_cases nodes (lambda - 1)).1 [
       | inl x ↦
-          let placed : IsPlaced places x.0 (nodes_before nodes (lambda - 1)) = are.placed (lambda - 1) x.0 x.2 in
-          let count : length (nodes_before nodes (lambda - 1)) ≡ lambda - 1 = before_length nodes (lambda - 1) (omega arith) in
-          let own : first_at places (lambda - 1) ≤ lambda - 1 =
-          subst (λ (k : ℕ). first_at places k ≤ k) count placed.order in
+          let own : first_at places (lambda - 1) ≤ lambda - 1 = (node_within nodes places (lambda - 1) x.0 are x.2).0 in
           elim (cases_lt lambda stop) [
             | inl less ↦ record {
               node = body.lambda;

@@ -1,5 +1,5 @@
 -- The nodes of a run, by their indices.
-use Rattle.odata_typing.proofs.Common.{◌≡◌, refl, ap, sym, subst, ◌∙◌, ℕ, zero, suc, ◌+◌, ◌-◌, ◌<◌, ◌≤◌, List, [], ◌∷◌, ◌++◌, Some, take, drop, length, slice_get, arith, drop-append-le, take-append-le, ArePlaces, AreBefore, AreSideBySide, IsPlaced, first_at, first_over, nodes_before, number_at, roots_back, stop_at, AreFedBack, child_count, tree_count_back, Place, SyntaxNode}
+use Rattle.odata_typing.proofs.Common.{◌≡◌, refl, ap, sym, subst, ◌∙◌, ℕ, zero, suc, ◌+◌, ◌-◌, ◌<◌, ◌≤◌, List, [], ◌∷◌, ◌++◌, Some, take, drop, length, slice_get, arith, drop-append-le, take-append-le, ArePlaces, AreBefore, AreSideBySide, IsPlaced, first_at, first_over, nodes_before, number_at, roots_back, stop_at, AreFedBack, child_count, tree_count_back, Place, SyntaxNode, slice_get_within}
 use Rattle.odata_typing.proofs.stacks.Children.{roots_count}
 use Rattle.odata_typing.proofs.stacks.Runs.{roots_apart}
 use Rattle.odata_typing.proofs.stacks.Slices.{before_joined, before_length, run_all, run_each, run_length}
@@ -93,6 +93,15 @@ placed_run nodes places from index are order inside =
     (λ k n after before at fed placed. (placed_one nodes places from k n are after (omega arith) at fed.1 fed.0, placed)) order inside
 
 -- Where trees begin.
+
+-- the tree of a node begins at it or before it, and ends among the nodes
+pub node_within : (nodes : List SyntaxNode) (places : List Place) (index : ℕ) (n : SyntaxNode) → ArePlaces nodes places → slice_get nodes index ≡ Some n
+    → (first_at places index ≤ index) × (stop_at places index ≤ length places)
+node_within nodes places index n are at =
+    let inside : index < length nodes = slice_get_within nodes index n at in
+    let count : length (nodes_before nodes index) ≡ index = before_length nodes index (omega arith) in
+    let placed : IsPlaced places n (nodes_before nodes index) = are.placed index n at in
+    (subst (λ (k : ℕ). first_at places k ≤ k) count placed.order, subst (λ (k : ℕ). stop_at places k ≤ length places) count placed.within)
 
 -- each of these trees begins after the root before it
 abbrev pub AreTiled : List Place → List ℕ → Type 0

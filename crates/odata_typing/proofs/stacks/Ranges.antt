@@ -1,12 +1,10 @@
 -- The trees of a run stand among the nodes of the tree that it becomes.
-use Rattle.odata_typing.proofs.Common.{◌≡◌, ap, sym, subst, ◌∙◌, ℕ, ◌+◌, ◌-◌, ◌<◌, ◌≤◌, List, [], ◌∷◌, ◌++◌, Some, take, drop, length, length-drop, slice_get, arith, nil_from_length, take-append-drop, ArePlaces, AreSideBySide, number_at, stop_at, child_count, tree_count_back, Place, SyntaxNode}
-use Rattle.std.specs.List.{slice_range}
+use Rattle.odata_typing.proofs.Common.{◌≡◌, ap, sym, subst, ◌∙◌, ℕ, ◌+◌, ◌-◌, ◌<◌, ◌≤◌, List, [], ◌∷◌, ◌++◌, Some, take, drop, length, length-drop, slice_get, arith, nil_from_length, take-append-drop, ArePlaces, AreSideBySide, number_at, stop_at, child_count, tree_count_back, Place, SyntaxNode, IsWholeTree, slice_range}
 use Rattle.odata_typing.proofs.stacks.Onward.{earlier_of}
 use Rattle.odata_typing.proofs.stacks.Children.{roots_count}
 use Rattle.odata_typing.proofs.stacks.Placed.{ArePlacedFrom, placed_run}
 use Rattle.odata_typing.proofs.stacks.Slices.{onward_run, run_length, run_more}
 use Rattle.odata_typing.proofs.stacks.Stacks.{onward, roots_from, run_before}
-use Rattle.odata_typing.proofs.stacks.TreeRuns.{IsWholeRun}
 
 -- the trees of these roots stand from one index up to another
 abbrev pub AreWithin : List Place → ℕ → ℕ → List ℕ → Type 0
@@ -63,7 +61,7 @@ pub whole_root :
     (nodes : List SyntaxNode) (from stop : ℕ)
     → from ≤ stop
     → stop ≤ length nodes
-    → IsWholeRun (run_before nodes from stop)
+    → IsWholeTree (slice_range nodes from stop)
     → roots_from from (run_before nodes from stop) ≡ (stop - 1) ∷ []
 whole_root nodes from stop order inside whole =
     let count : length (run_before nodes from stop) ≡ stop - from = run_length nodes from stop order inside in
@@ -81,7 +79,7 @@ pub node_range :
     → index < stop
     → stop ≤ length nodes
     → slice_get nodes index ≡ Some n
-    → IsWholeRun (run_before nodes from stop)
+    → IsWholeTree (slice_range nodes from stop)
     → IsInRange places stop index
 node_range nodes places from stop index n are order before inside at whole =
     let later = slice_range nodes (index + 1) stop in

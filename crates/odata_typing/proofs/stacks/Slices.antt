@@ -1,12 +1,6 @@
 -- The nodes of a list from one index up to another, the last one first.
-use Rattle.odata_typing.proofs.Common.{◌≡◌, refl, ap, sym, ◌∙◌, subst, inl, inr, ℕ, zero, suc, ◌+◌, ◌-◌, ◌<◌, ◌≤◌, List, [], ◌∷◌, ◌++◌, Some, reverse, take, drop, length, length-drop, get_or, slice_get, arith, append_assoc, drop-drop, drop-take, get_or-drop, length-reverse, length-take-le, reverse-append, take-append-drop, take-take, take_more, get_or_from_slice_get, slice_get_cases, slice_get_within, nodes_before, AreFedBack, SyntaxNode}
-use Rattle.std.specs.List.{slice_range}
+use Rattle.odata_typing.proofs.Common.{◌≡◌, refl, ap, sym, ◌∙◌, subst, inl, inr, ℕ, zero, suc, ◌+◌, ◌-◌, ◌<◌, ◌≤◌, List, [], ◌∷◌, ◌++◌, Some, reverse, take, drop, length, length-drop, get_or, slice_get, arith, append_assoc, drop-drop, drop-take, get_or-drop, length-reverse, length-take-le, reverse-append, take-append-drop, take-take, take_more, get_or_from_slice_get, slice_get_cases, slice_get_within, nodes_before, AreFedBack, SyntaxNode, slice_range}
 use Rattle.odata_typing.proofs.stacks.Stacks.{onward, run_before}
-
-pub run_empty : (nodes : List SyntaxNode) (from : ℕ) → run_before nodes from from ≡ []
-run_empty nodes from =
-    let none : from - from ≡ 0 = omega arith in
-    ap (λ (k : ℕ). reverse (take k (drop from nodes))) none
 
 -- with the first node after them
 pub run_more :
@@ -42,8 +36,8 @@ run_each nodes from stop P none more order inside fed =
   where
     by : (m : ℕ) → from + m ≤ stop → AreFedBack (run_before nodes from (from + m)) → P (run_before nodes from (from + m))
     by zero before fed =
-        let empty : run_before nodes from (from + zero) ≡ [] = ap (λ (k : ℕ). run_before nodes from k) (omega arith) ∙ run_empty nodes from in
-        subst P (sym empty) none
+        let empty : from + zero - from ≡ 0 = omega arith in
+        subst P (sym (ap (λ (k : ℕ). reverse (take k (drop from nodes))) empty)) none
     by (suc m) before fed = elim (slice_get_cases nodes (from + m)).1 [
       | inl x ↦
           let next : run_before nodes from (from + suc m) ≡ x.0 ∷ run_before nodes from (from + m) =
@@ -79,11 +73,9 @@ run_all nodes index =
     let all : index - 0 ≡ index = omega arith in
     ap (λ (k : ℕ). reverse (take k nodes)) all
 
-pub before_more : (nodes : List SyntaxNode) (index : ℕ) (n : SyntaxNode) → slice_get nodes index ≡ Some n → nodes_before nodes (suc index) ≡ n ∷ nodes_before nodes index
+pub before_more : (nodes : List SyntaxNode) (index : ℕ) (n : SyntaxNode) → slice_get nodes index ≡ Some n → nodes_before nodes (index + 1) ≡ n ∷ nodes_before nodes index
 before_more nodes index n at =
-    let next : suc index ≡ index + 1 = omega arith in
-    ap (λ (k : ℕ). nodes_before nodes k) next
-    ∙ sym (run_all nodes (index + 1))
+    sym (run_all nodes (index + 1))
     ∙ run_more nodes 0 index n (omega arith) at
     ∙ ap (λ (ns : List SyntaxNode). n ∷ ns) (run_all nodes index)
 

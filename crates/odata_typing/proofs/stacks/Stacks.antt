@@ -1,7 +1,6 @@
 -- The trees of a run of nodes, each node after its children, and where they begin. Of nodes, of trees and of roots the
 -- last comes first.
-use Rattle.odata_typing.proofs.Common.{ℕ, ◌+◌, List, [], ◌∷◌, drop, length, reverse, child_count, SyntaxNode}
-use Rattle.std.specs.List.{slice_range}
+use Rattle.odata_typing.proofs.Common.{ℕ, ◌+◌, List, [], ◌∷◌, drop, length, reverse, child_count, SyntaxNode, slice_range}
 use Rattle.odata_syntax.specs.declared.syntax_list.SyntaxKind.{SyntaxKind}
 
 -- nodes, and those that follow them in their order

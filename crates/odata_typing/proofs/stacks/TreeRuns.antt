@@ -1,17 +1,11 @@
 -- The nodes of one tree of a list are a whole run.
-use Rattle.odata_typing.proofs.Common.{◌≡◌, refl, ap, sym, subst, ◌∙◌, ℕ, ◌+◌, ◌-◌, ◌<◌, ◌≤◌, List, [], ◌∷◌, ◌++◌, take, length, length-append, arith, take_at, ArePlaces, first_at, nodes_before, roots_back, AreFedBack, Texts, last_tree, tree_count_back, trees_back, IsWithin, Tree, Place, SyntaxNode}
-use Rattle.std.specs.List.{slice_range}
-use Rattle.odata_typing.proofs.stacks.Children.{trees_count}
+use Rattle.odata_typing.proofs.Common.{◌≡◌, refl, ap, sym, subst, ◌∙◌, ℕ, ◌+◌, ◌-◌, ◌<◌, ◌≤◌, List, [], ◌∷◌, ◌++◌, take, length, length-append, arith, take_at, ArePlaces, first_at, nodes_before, roots_back, AreFedBack, Texts, last_tree, tree_count_back, trees_back, IsWithin, Tree, Place, SyntaxNode, IsWholeTree, reverse, trees_in, slice_range}
 use Rattle.odata_typing.proofs.stacks.Onward.{AllWithin, stays_within}
 use Rattle.odata_typing.proofs.stacks.Placed.{AreTiled, roots_all, tiled}
 use Rattle.odata_typing.proofs.stacks.Runs.{OwnRun, begins_own, own_run, trees_apart}
 use Rattle.odata_typing.proofs.stacks.Slices.{before_joined, before_length, onward_run, run_joined}
 use Rattle.odata_typing.proofs.stacks.Stacks.{begin_of, onward, roots_from, run_before}
-
--- each node has its children among these, which are one tree
-pub record IsWholeRun (run : List SyntaxNode) : Type 0 where
-  pub fed : AreFedBack run
-  pub one : tree_count_back run ≡ 1
+use Rattle.odata_typing.proofs.stacks.Children.{trees_count}
 
 same_front : (xs ys zs ws : List SyntaxNode) → xs ++ ys ≡ zs ++ ws → length ys ≡ length ws → xs ≡ zs
 same_front xs ys zs ws same long =
@@ -40,7 +34,7 @@ pub tree_run :
     → first_at places (stop - 1) ≡ from
     → from < stop
     → stop ≤ length nodes
-    → IsWholeRun (run_before nodes from stop)
+    → IsWholeTree (slice_range nodes from stop)
 tree_run nodes places from stop are fed first order inside =
     let all = nodes_before nodes stop in
     let count : length all ≡ stop = before_length nodes stop inside in
@@ -61,13 +55,13 @@ only_one [] one = absurd (omega arith)
 only_one (tree ∷ []) one = refl
 only_one (tree ∷ (other ∷ trees)) one = absurd (omega arith)
 
-pub whole_trees : (names : Texts) (run : List SyntaxNode) → IsWholeRun run → trees_back names run ≡ last_tree (trees_back names run) ∷ []
-whole_trees names run whole = only_one (trees_back names run) (trees_count names run ∙ whole.one)
+pub whole_trees : (names : Texts) (run : List SyntaxNode) → IsWholeTree run → trees_in names run ≡ last_tree (trees_in names run) ∷ []
+whole_trees names run whole = only_one (trees_in names run) (trees_count names (reverse run) ∙ whole.one)
 
 -- after other nodes it is one more tree
-pub one_more_tree : (names : Texts) (run before : List SyntaxNode) → IsWholeRun run → trees_back names (run ++ before) ≡ last_tree (trees_back names run) ∷ trees_back names before
+pub one_more_tree : (names : Texts) (run before : List SyntaxNode) → IsWholeTree run → trees_back names (reverse run ++ before) ≡ last_tree (trees_in names run) ∷ trees_back names before
 one_more_tree names run before whole =
-    trees_apart names run before whole.fed ∙ ap (λ (ts : List Tree). ts ++ trees_back names before) (whole_trees names run whole)
+    trees_apart names (reverse run) before whole.fed ∙ ap (λ (ts : List Tree). ts ++ trees_back names before) (whole_trees names run whole)
 
 -- it is a part of the tree that a longer run becomes
 pub run_within :
@@ -75,8 +69,8 @@ pub run_within :
     → from ≤ middle
     → middle ≤ stop
     → stop ≤ last
-    → IsWholeRun (run_before nodes middle stop)
-    → IsWholeRun (run_before nodes from last)
+    → IsWholeTree (slice_range nodes middle stop)
+    → IsWholeTree (slice_range nodes from last)
     → IsWithin (last_tree (trees_back names (run_before nodes middle stop))) (last_tree (trees_back names (run_before nodes from last)))
 run_within names nodes from middle stop last a b c inner outer =
     let run = run_before nodes middle stop in
@@ -90,6 +84,6 @@ run_within names nodes from middle stop last a b c inner outer =
     subst (λ (ns : List SyntaxNode). AllWithin (last_tree (trees_back names ns)) (trees_back names (run_before nodes from stop))) so_far
     (stays_within names later (run_before nodes from stop) fed one) in
     let split : trees_back names (run_before nodes from stop) ≡ last_tree (trees_back names run) ∷ trees_back names earlier =
-    ap (λ (ns : List SyntaxNode). trees_back names ns) (run_joined nodes from middle stop a b) ∙ one_more_tree names run earlier inner in
+    ap (λ (ns : List SyntaxNode). trees_back names ns) (run_joined nodes from middle stop a b) ∙ one_more_tree names (slice_range nodes middle stop) earlier inner in
     let parts : AllWithin whole (last_tree (trees_back names run) ∷ trees_back names earlier) = subst (λ (ts : List Tree). AllWithin whole ts) split all in
     parts.0

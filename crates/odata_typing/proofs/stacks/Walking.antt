@@ -1,6 +1,5 @@
 -- The walk over a run: what has been judged so far, and one more node.
-use Rattle.odata_typing.proofs.Common.{◌≡◌, ◌≢◌, ap, sym, subst, ◌∙◌, inl, inr, ◌⊎◌, ℕ, zero, suc, ◌+◌, ◌-◌, ◌<◌, ◌≤◌, List, [], ◌∷◌, false, Some, None, take, drop, length, slice_get, arith, AreBefore, AreSideBySide, lambda_at, number_at, places_of, stop_at, AreFedBack, Texts, child_count, last_tree, shape_over, tree_count_back, trees_back, IsWithin, text_in, Tree, node, Quantifier, Place, SyntaxNode, slots_of, type_name_at, IsFirstUntypable, TypeFault, IsKeptOutside, Judged, CheckContext, Walk, AreLastTrees, IsPut, IsNodeAt, IsReady, IsRun, IsContext, run_tree, whole_tree, LawsBelow, scope_of}
-use Rattle.std.specs.List.{slice_range}
+use Rattle.odata_typing.proofs.Common.{◌≡◌, ◌≢◌, ap, sym, subst, ◌∙◌, inl, inr, ◌⊎◌, ℕ, zero, suc, ◌+◌, ◌-◌, ◌<◌, ◌≤◌, List, [], ◌∷◌, false, Some, None, take, drop, length, slice_get, arith, AreBefore, AreSideBySide, lambda_at, number_at, places_of, stop_at, AreFedBack, Texts, child_count, last_tree, shape_over, tree_count_back, trees_back, IsWithin, text_in, Tree, node, Quantifier, Place, SyntaxNode, slots_of, type_name_at, IsFirstUntypable, IsKeptOutside, Judged, CheckContext, Walk, AreLastTrees, IsPut, IsNodeAt, IsReady, IsRun, IsContext, run_tree, whole_tree, LawsBelow, scope_of, slice_range, IfSome, Shape, name_of}
 use Rattle.odata_syntax.specs.declared.syntax_list.SyntaxKind.{SyntaxKind}
 use Rattle.odata_typing.proofs.flat.Kept.{kept_on, kept_wider}
 use Rattle.odata_typing.proofs.stacks.Children.{left_over, roots_count, trees_count}
@@ -9,10 +8,11 @@ use Rattle.odata_typing.proofs.stacks.Judged.{AreJudged, judged_drop, judged_kep
 use Rattle.odata_typing.proofs.stacks.Marks.{IsMarked, bodies_marked, marked_one}
 use Rattle.odata_typing.proofs.stacks.Placed.{IsPlacedFrom, placed_one}
 use Rattle.odata_typing.proofs.stacks.Ranges.{node_range, whole_root}
-use Rattle.odata_typing.proofs.stacks.Contexts.{fed_before, fed_within, fits_within, whole_run}
+use Rattle.odata_typing.proofs.stacks.Contexts.{fed_before, fed_within, fits_within}
 use Rattle.odata_typing.proofs.stacks.Slices.{onward_run, run_length, run_more}
 use Rattle.odata_typing.proofs.stacks.Stacks.{BodiesBegin, NoneBegins, onward, roots_from, run_before}
-use Rattle.odata_typing.proofs.stacks.TreeRuns.{IsWholeRun, whole_trees}
+use Rattle.odata_typing.proofs.stacks.TreeRuns.{whole_trees}
+use Rattle.odata_typing.proofs.flat.Closing.{some_on}
 
 -- the roots and the trees of a run up to an index
 abbrev pub run_roots : CheckContext → ℕ → ℕ → List ℕ
@@ -44,52 +44,69 @@ ready_still context from stop index old new ready walking = record {
   fresh = walking.fault;
 }
 
--- the node at a root is put over the last trees of the run: the trees before these have been judged, and stand before
--- it
-pub record IsJoin (context : CheckContext) (walk : Walk) (from root : ℕ) (tree : Tree) (roots : List ℕ) (trees : List Tree) : Type 0 where
-  pub n : SyntaxNode
-  pub at : slice_get context.nodes.now root ≡ Some n
+-- the node of an index, of that shape
+abbrev pub judged_tree : Judged → Shape → Tree
+judged_tree judged shape = node judged.node.now.span.start judged.node.now.span.stop shape
+
+-- over the trees of the run so far
+abbrev pub shape_at : CheckContext → ℕ → ℕ → Judged → Shape
+shape_at context from index judged =
+    shape_over judged.node.now.kind (name_of context judged) judged.node.now.count (run_trees context from index)
+
+-- the tree is put over the nodes of the root
+abbrev pub IsTreePut : CheckContext → Judged → Tree → Walk → Walk → Type 0
+IsTreePut context judged tree old new =
+    IsPut context.schema.now context.filtered_type (scope_of context) judged.number judged.stop tree old new
+
+-- the fault, if there is one, is the tree's first
+abbrev pub HasFirstFault : CheckContext → Tree → Walk → Type 0
+HasFirstFault context tree walk =
+    IfSome walk.fault (IsFirstUntypable (slots_of context.schema.now) (type_name_at context.schema.now context.filtered_type) (scope_of context) tree)
+
+-- the node of a root, over the last trees of the run: the trees before these have been judged, and stand before it
+pub record IsStep (context : CheckContext) (walk : Walk) (from stop root : ℕ) (judged : Judged) (tree : Tree) : Type 0 where
+  pub roots : List ℕ
+  pub trees : List Tree
+  pub order : from ≤ root
+  pub within : root < stop
+  pub at : IsNodeAt context root judged
   pub roots_are : run_roots context from (root + 1) ≡ root ∷ roots
   pub trees_are : run_trees context from (root + 1) ≡ tree ∷ trees
   pub before : AreBefore (places_of context.nodes.now) (number_at (places_of context.nodes.now) root) roots
-  pub judged : AreTreesJudged context walk roots trees
+  pub others : AreTreesJudged context walk roots trees
   pub apart : NoneBegins (IsMarked (places_of context.nodes.now)) (root ∷ roots)
 
-module _ (laws : LawsBelow) (context : CheckContext) (from stop root : ℕ) (walk : Walk) (tree : Tree) (roots : List ℕ) (trees : List Tree)
-    (is : IsContext context) (run : IsRun context from stop) (order : from ≤ root) (inside : root < stop) (join : IsJoin context walk from root tree roots trees) where
+module _ (laws : LawsBelow) (context : CheckContext) (from stop root : ℕ) (walk : Walk) (judged : Judged) (tree : Tree)
+    (is : IsContext context) (run : IsRun context from stop) (step : IsStep context walk from stop root judged tree) where
   -- once its tree is put, one more tree has been judged
-  pub join_walked :
-      (index : ℕ) (old new : Walk)
-      → IsWalking context from stop index old walk
-      → IsPut context.schema.now context.filtered_type (scope_of context) (number_at (places_of context.nodes.now) root) (stop_at (places_of context.nodes.now) root) tree walk new
-      → IsWalking context from stop (root + 1) old new
-  join_walked index old new walking put =
+  pub step_goes_on : (index : ℕ) (old new : Walk) → IsWalking context from stop index old walk → IsTreePut context judged tree walk new → IsWalking context from stop (root + 1) old new
+  step_goes_on index old new walking goes_on =
       let places = places_of context.nodes.now in
-      let range = node_range context.nodes.now places from stop root join.n is.places order inside run.inside join.at (whole_run context from stop run) in
-      let rest : AreTreesJudged context new roots trees =
-      judged_kept laws context.schema.now context.filtered_type (scope_of context) walk new places (number_at places root) (stop_at places root) (number_at places root) roots trees
-      (record { kept = put.kept; navigates = put.navigates }) (omega arith) join.before join.judged in
-      let all : AreTreesJudged context new (root ∷ roots) (tree ∷ trees) = (put.stands, rest) in
+      let Put : ℕ → ℕ → Type 0 = λ (i j : ℕ). IsPut context.schema.now context.filtered_type (scope_of context) i j tree walk new in
+      let put : Put (number_at places root) (stop_at places root) =
+      subst (λ (j : ℕ). Put (number_at places root) j) step.at.stop (subst (λ (i : ℕ). Put i judged.stop) step.at.number goes_on) in
+      let range = node_range context.nodes.now places from stop root judged.node.now is.places step.order step.within run.inside step.at.at run.whole in
+      let rest : AreTreesJudged context new step.roots step.trees =
+      judged_kept laws context.schema.now context.filtered_type (scope_of context) walk new places (number_at places root) (stop_at places root) (number_at places root) step.roots step.trees
+      (record { kept = put.kept; navigates = put.navigates }) (omega arith) step.before step.others in
+      let all : AreTreesJudged context new (root ∷ step.roots) (tree ∷ step.trees) = (put.stands, rest) in
       record {
-        order = omega arith;
-        inside = omega arith;
+        order = let order : from ≤ root = step.order in omega arith;
+        inside = let within : root < stop = step.within in omega arith;
         kept =
             kept_on (number_at places (stop - 1)) (stop_at places (stop - 1)) old.list walk.list new.list walking.kept
             (kept_wider (number_at places root) (stop_at places root) (number_at places (stop - 1)) (stop_at places (stop - 1)) walk.list new.list range.start range.end put.kept);
         navigates = λ still. walking.navigates (put.navigates still);
         fault = put.fault;
         judged =
-            subst (λ (rs : List ℕ). AreTreesJudged context new rs (run_trees context from (root + 1))) (sym join.roots_are)
-            (subst (λ (ts : List Tree). AreTreesJudged context new (root ∷ roots) ts) (sym join.trees_are) all);
-        apart = subst (λ (rs : List ℕ). NoneBegins (IsMarked places) rs) (sym join.roots_are) join.apart;
+            subst (λ (rs : List ℕ). AreTreesJudged context new rs (run_trees context from (root + 1))) (sym step.roots_are)
+            (subst (λ (ts : List Tree). AreTreesJudged context new (root ∷ step.roots) ts) (sym step.trees_are) all);
+        apart = subst (λ (rs : List ℕ). NoneBegins (IsMarked places) rs) (sym step.roots_are) step.apart;
       }
 
   -- where its tree has a fault, that is the first one of the run
-  pub join_faulted :
-      (fault : TypeFault)
-      → IsFirstUntypable (slots_of context.schema.now) (type_name_at context.schema.now context.filtered_type) (scope_of context) tree fault
-      → IsFirstUntypable (slots_of context.schema.now) (type_name_at context.schema.now context.filtered_type) (scope_of context) (run_tree context from stop) fault
-  join_faulted fault found =
+  pub step_refuses : (new : Walk) → HasFirstFault context tree new → HasFirstFault context (run_tree context from stop) new
+  step_refuses new =
       let slots = slots_of context.schema.now in
       let root_type = type_name_at context.schema.now context.filtered_type in
       let scope = scope_of context in
@@ -99,18 +116,21 @@ module _ (laws : LawsBelow) (context : CheckContext) (from stop root : ℕ) (wal
       let later = slice_range nodes (root + 1) stop in
       let earlier = run_before nodes from (root + 1) in
       let last : stop ≤ length nodes = run.inside in
+      let order : from ≤ root = step.order in
+      let within : root < stop = step.within in
       let so_far : onward later earlier ≡ run_before nodes from stop = onward_run nodes from (root + 1) stop (omega arith) (omega arith) in
       let marked = bodies_marked nodes places from stop is.places (fed_before context stop is last) (omega arith) last run.whole.fed in
+      some_on new.fault (IsFirstUntypable slots root_type scope tree) (IsFirstUntypable slots root_type scope (run_tree context from stop)) (λ fault found.
       subst (λ (ns : List SyntaxNode). IsFirstUntypable slots root_type scope (last_tree (trees_back names ns)) fault) so_far
-      (first_fault laws.spans laws.clear laws.below (IsMarked places) slots root_type scope (whole_tree context) from names fault is.expression later earlier tree trees
+      (first_fault laws.spans laws.clear laws.below (IsMarked places) slots root_type scope (whole_tree context) from names fault is.expression later earlier tree step.trees
       (subst (λ (ns : List SyntaxNode). AreFedBack ns) (sym so_far) run.whole.fed)
       (subst (λ (ns : List SyntaxNode). tree_count_back ns ≡ 1) (sym so_far) run.whole.one)
       (subst (λ (ns : List SyntaxNode). IsWithin (last_tree (trees_back names ns)) (whole_tree context)) (sym so_far) run.within)
       (subst (λ (ns : List SyntaxNode). BodiesBegin (IsMarked places) from ns) (sym so_far) marked)
-      (subst (λ (rs : List ℕ). NoneBegins (IsMarked places) rs) (sym join.roots_are) join.apart)
-      join.trees_are
-      (judged_typed context.schema.now context.filtered_type scope walk places roots trees join.judged)
-      found)
+      (subst (λ (rs : List ℕ). NoneBegins (IsMarked places) rs) (sym step.roots_are) step.apart)
+      step.trees_are
+      (judged_typed context.schema.now context.filtered_type scope walk places step.roots step.trees step.others)
+      found))
 
 -- A node of a run stands over the trees before it.
 
@@ -193,31 +213,28 @@ module _ (context : CheckContext) (from stop index : ℕ) (old walk : Walk)
       walking.apart
 
   -- it joins the last trees
-  pub node_joins :
-      (n : SyntaxNode)
-      → slice_get context.nodes.now index ≡ Some n
-      → (lambda_at (places_of context.nodes.now) index ≡ 0) ⊎ (index ≡ from)
-      → IsJoin context walk from index
-      (node n.span.start n.span.stop (shape_over n.kind (text_in context.text.now n.text) n.count (run_trees context from index)))
-      (drop (child_count n.kind n.count) (run_roots context from index))
-      (drop (child_count n.kind n.count) (run_trees context from index))
-  node_joins n at unmarked =
+  pub node_step : (judged : Judged) → IsNodeAt context index judged → (lambda_at (places_of context.nodes.now) index ≡ 0) ⊎ (index ≡ from)
+      → IsStep context walk from stop index judged (judged_tree judged (shape_at context from index judged))
+  node_step judged at unmarked =
+      let n = judged.node.now in
       let places = places_of context.nodes.now in
       let count = child_count n.kind n.count in
       let names : Texts = text_in context.text.now in
       let earlier = run_before context.nodes.now from index in
       let trees = run_trees context from index in
       let roots = run_roots context from index in
-      let over : IsOver context from index n = node_over context from stop index n is run walking.order inside at in
-      let next : run_before context.nodes.now from (index + 1) ≡ n ∷ earlier = run_more context.nodes.now from index n walking.order at in
-      let own_tree = node n.span.start n.span.stop (shape_over n.kind (names n.text) n.count trees) in
+      let over : IsOver context from index n = node_over context from stop index n is run walking.order inside at.at in
+      let next : run_before context.nodes.now from (index + 1) ≡ n ∷ earlier = run_more context.nodes.now from index n walking.order at.at in
       record {
-        n = n;
+        roots = drop count roots;
+        trees = drop count trees;
+        order = walking.order;
+        within = inside;
         at = at;
         roots_are = ap (λ (ns : List SyntaxNode). roots_from from ns) next ∙ ap (λ (k : ℕ). k ∷ drop count roots) over.here;
-        trees_are = ap (λ (ns : List SyntaxNode). trees_back names ns) next ∙ ap (λ (ts : List Tree). own_tree ∷ ts) (left_over n.kind n.count trees);
+        trees_are = ap (λ (ns : List SyntaxNode). trees_back names ns) next ∙ ap (λ (ts : List Tree). judged_tree judged (shape_at context from index judged) ∷ ts) (left_over n.kind n.count trees);
         before = subst (λ (k : ℕ). AreBefore places (number_at places k) (drop count roots)) over.here over.placed.older;
-        judged = judged_drop context.schema.now context.filtered_type (scope_of context) walk places count roots trees walking.judged;
+        others = judged_drop context.schema.now context.filtered_type (scope_of context) walk places count roots trees walking.judged;
         apart = leaf_apart places from index count earlier over.here unmarked walking.apart;
       }
 
@@ -229,9 +246,8 @@ pub walk_ends :
     → IsPut context.schema.now context.filtered_type (scope_of context) (number_at (places_of context.nodes.now) (stop - 1)) (stop_at (places_of context.nodes.now) (stop - 1)) (run_tree context from stop) old new
 walk_ends context from stop old new run walking =
     let nodes = context.nodes.now in
-    let whole : IsWholeRun (run_before nodes from stop) = whole_run context from stop run in
-    let roots : run_roots context from stop ≡ (stop - 1) ∷ [] = whole_root nodes from stop walking.order run.inside whole in
-    let trees : run_trees context from stop ≡ run_tree context from stop ∷ [] = whole_trees (text_in context.text.now) (run_before nodes from stop) whole in
+    let roots : run_roots context from stop ≡ (stop - 1) ∷ [] = whole_root nodes from stop walking.order run.inside run.whole in
+    let trees : run_trees context from stop ≡ run_tree context from stop ∷ [] = whole_trees (text_in context.text.now) (slice_range nodes from stop) run.whole in
     let all : AreTreesJudged context new ((stop - 1) ∷ []) (run_tree context from stop ∷ []) =
     subst (λ (rs : List ℕ). AreTreesJudged context new rs (run_tree context from stop ∷ [])) roots
     (subst (λ (ts : List Tree). AreTreesJudged context new (run_roots context from stop) ts) trees walking.judged) in

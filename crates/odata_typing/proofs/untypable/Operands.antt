@@ -1,14 +1,12 @@
 -- Nodes over operands that have types, of which they make none.
-use Rattle.odata_typing.proofs.Common.{refl, sym, subst, ◌≡◌, ℕ, List, AllByRecursion, Tree, literal, node, ExprType, Slots, LawsBelow, InfixTyped, IsInfix, UnaryTyped, infix_shape, unary_code, unary_shape, IsFirstUntypable, IsReason, LiteralReason, StepReason, Between, IsTyped, OperandTyped, OperandsTyped, Scope, StepTyped, Typed}
+use Rattle.odata_typing.proofs.Common.{refl, sym, subst, ◌≡◌, ℕ, List, AllByRecursion, Tree, node, ExprType, Slots, LawsBelow, InfixTyped, IsInfix, UnaryTyped, infix_shape, unary_code, unary_shape, IsFirstUntypable, IsReason, StepReason, Between, IsTyped, OperandTyped, OperandsTyped, Scope, StepTyped, Typed}
 use Rattle.odata_syntax.specs.Tree.{member}
-use Rattle.odata_syntax.specs.declared.node.LiteralKind.{LiteralKind}
 use Rattle.odata_text.specs.declared.span.Span.{Span}
 use Rattle.odata_signatures.specs.declared.refusal.TypeFaultCode.{TypeFaultCode}
 use Rattle.odata_checked_filter.specs.declared.checked_node.NodeKind.{NodeKind}
 use Rattle.odata_typing.specs.declared.unary_node.Unary.{Unary}
-use Rattle.odata_signatures.specs.LiteralValue.{LiteralTyped}
-use Rattle.odata_typing.proofs.forms.Infix.{infix_bodiless, infix_children, infix_only}
-use Rattle.odata_typing.proofs.forms.Unary.{unary_bodiless, unary_children, unary_only, unary_reason}
+use Rattle.odata_typing.proofs.forms.Infix.{infix_bodiless, infix_children, infix_types}
+use Rattle.odata_typing.proofs.forms.Unary.{unary_bodiless, unary_children, unary_reason, unary_types}
 use Rattle.odata_typing.proofs.untypable.Untypable.{first_itself}
 
 module _ (laws : LawsBelow) (slots : Slots) (root : List ℕ) (scope : Scope) where
@@ -40,7 +38,7 @@ module _ (laws : LawsBelow) (slots : Slots) (root : List ℕ) (scope : Scope) wh
       (subst (λ (ts : List Tree). AllByRecursion (IsTyped slots root scope) ts) (sym (infix_children form l r between)) ((left, a), ((right, b), tt)))
       (λ type typed.
       between_untyped l r left right (Between (InfixTyped slots form) l r) a b refused type
-      (infix_only slots root scope span.start span.stop form l r type between typed))
+      ((infix_types slots root scope span.start span.stop form l r type between).0 typed))
       reason refl refl
 
   -- a node over one operand, of whose type it makes none
@@ -65,7 +63,7 @@ module _ (laws : LawsBelow) (slots : Slots) (root : List ℕ) (scope : Scope) wh
       (subst (λ (ts : List Tree). AllByRecursion (IsTyped slots root scope) ts) (sym (unary_children unary operand)) ((type, typed), tt))
       (λ made whole.
       over_untyped operand type (UnaryTyped unary) typed refused made
-      (unary_only slots root scope span.start span.stop unary operand made whole))
+      ((unary_types slots root scope span.start span.stop unary operand made).0 whole))
       (subst (λ (c : TypeFaultCode). IsReason slots root scope (node span.start span.stop (unary_shape unary operand)) c) (sym is)
       (unary_reason slots root scope span.start span.stop unary operand))
       refl refl
@@ -82,12 +80,3 @@ module _ (laws : LawsBelow) (slots : Slots) (root : List ℕ) (scope : Scope) wh
       ((type, typed), tt)
       (over_untyped base type (StepTyped slots asked) typed refused)
       (type, typed, reason) refl refl
-
-  -- a literal that has no value
-  pub unread_literal :
-      (span : Span) (kind : LiteralKind) (spelling : List ℕ) (code : TypeFaultCode)
-      → ((type : ExprType) → ¬ LiteralTyped slots kind spelling type)
-      → LiteralReason kind code
-      → IsFirstUntypable slots root scope (node span.start span.stop (literal kind spelling)) (record { code = code; span = span })
-  unread_literal span kind spelling code untyped reason =
-      first_itself laws slots root scope span.start span.stop (literal kind spelling) (record { code = code; span = span }) (λ at body is. is) tt untyped reason refl refl

@@ -1,6 +1,5 @@
 -- The walk over all nodes of a context.
-use Rattle.odata_typing.proofs.Common.{◌≡◌, refl, replicate, ◌∙◌, sym, ap, subst, ℕ, ◌-◌, ◌<◌, List, [], Bool, Option, Some, IfErr, IfOk, IfSome, Result, Ok, Err, length, slice_get, take, arith, length-replicate, take_all, slice_get_within, number_at, places_of, stop_at, listed_tree, Tree, SyntaxNode, HoldsType, SchemaModel, slots_of, type_name_at, IsBooleanOrNull, expr_type, FewNodes, Scope, TypeFault, FlatTree, tree_of_nodes, nothing_yet, with_room, CheckedNode, CheckContext, Walk, IsJudged, IsPut, IsStanding, IsTreeJudged, LawsBelow, IsReady, IsContext, run_tree, whole_tree, scope_of}
-use Rattle.std.proofs.Common.{slice_range}
+use Rattle.odata_typing.proofs.Common.{◌≡◌, refl, replicate, ◌∙◌, sym, ap, subst, ℕ, ◌-◌, ◌<◌, List, [], Bool, Option, Some, IfErr, IfOk, IfSome, Result, Ok, Err, length, slice_get, length-replicate, slice_get_within, number_at, places_of, stop_at, Tree, HoldsType, SchemaModel, slots_of, type_name_at, IsBooleanOrNull, expr_type, FewNodes, Scope, TypeFault, FlatTree, tree_of_nodes, nothing_yet, with_room, CheckedNode, CheckContext, Walk, IsJudged, IsPut, IsStanding, IsTreeJudged, LawsBelow, IsReady, IsContext, run_tree, whole_tree, scope_of}
 use Rattle.odata_signatures.specs.HasTyping.{HasTree, HasTyping}
 use Rattle.odata_signatures.specs.declared.refusal.Refusal.{Refusal}
 use Rattle.odata_signatures.specs.declared.refusal.TypeFaultCode.{TypeFaultCode}
@@ -8,12 +7,7 @@ use Rattle.odata_checked_filter.specs.Laws.{OneTree}
 use Rattle.odata_typing.specs.private.Answer.{IsTypeRefusal}
 use Rattle.odata_typing.specs.private.Checker.{IsRefusedFor, IsWalked}
 use Rattle.odata_typing.proofs.untypable.Checks.{not_boolean, type_none, type_refusal, whole_filter, whole_idle, whole_stands, whole_typing}
-
-all_nodes : (nodes : List SyntaxNode) → slice_range nodes 0 (length nodes) ≡ nodes
-all_nodes nodes = ap (λ (k : ℕ). take k nodes) (omega arith) ∙ take_all (length nodes) nodes (omega arith)
-
-pub run_whole : (context : CheckContext) → run_tree context 0 (length context.nodes.now) ≡ whole_tree context
-run_whole context = ap (listed_tree context.text.now) (all_nodes context.nodes.now)
+use Rattle.odata_typing.proofs.stacks.Contexts.{whole_is}
 
 -- a list with room for the nodes of a text
 pub room_made :
@@ -39,7 +33,7 @@ whole_judged context old new result is none judged =
     let at_scope = subst (λ (scope : Scope). IsJudged schema n scope (number_at (places_of context.nodes.now) (length context.nodes.now - 1)) (stop_at (places_of context.nodes.now) (length context.nodes.now - 1)) (run_tree context 0 (length context.nodes.now)) old new result) none judged in
     let at_start = subst (λ (i : ℕ). IsJudged schema n [] i (stop_at (places_of context.nodes.now) (length context.nodes.now - 1)) (run_tree context 0 (length context.nodes.now)) old new result) is.places.root at_scope in
     let at_stop = subst (λ (j : ℕ). IsJudged schema n [] 0 j (run_tree context 0 (length context.nodes.now)) old new result) is.places.whole at_start in
-    subst (λ (tree : Tree). IsJudged schema n [] 0 (length context.nodes.now) tree old new result) (run_whole context) at_stop
+    subst (λ (tree : Tree). IsJudged schema n [] 0 (length context.nodes.now) tree old new result) (whole_is context) at_stop
 
 -- it stands in the whole list
 pub whole_put :

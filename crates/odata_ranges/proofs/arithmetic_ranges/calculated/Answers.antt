@@ -1,9 +1,4 @@
-use Rattle.std.proofs.Common.{Bool, true, ◌||◌, ◌∙◌, sym, ap, subst, rules}
-use Rattle.std.specs.Int.{w128}
-use Rattle.std.specs.Prelude.{FitsSigned}
-use Rattle.std.proofs.lemmas.Int.{to_z-of_z}
-use Rattle.odata_ranges.specs.Reach.{HoldsNumber}
-use Rattle.odata_ranges.specs.declared.range.Range.{Range}
+use Rattle.odata_ranges.proofs.Common.{Bool, true, ◌||◌, ◌∙◌, sym, ap, subst, rules, w128, FitsSigned, to_z-of_z, HoldsNumber, Range}
 use Rattle.odata_ranges.proofs.Calculations.{calculated_within, from_span, from_type}
 use Rattle.odata_ranges.proofs.arithmetic_ranges.calculated.Goals as goal
 

@@ -1,5 +1,4 @@
-use Rattle.std.proofs.Common.{inl, inr, arith}
-use Rattle.std.proofs.lemmas.Int.{ints}
+use Rattle.odata_ranges.proofs.Common.{inl, inr, arith, ints}
 use Rattle.odata_ranges.proofs.arithmetic_ranges.lowest_remainder.Goals as goal
 
 pub returns-then-low-lt0 : goal.returns-then-low-lt0

@@ -1,6 +1,4 @@
-use Rattle.std.proofs.Common.{ap, arith}
-use Rattle.std.proofs.lemmas.Int.{ints}
-use Rattle.odata_ranges.specs.declared.range.Range.{Range}
+use Rattle.odata_ranges.proofs.Common.{ap, arith, ints, Range}
 use Rattle.odata_ranges.proofs.Calculations.{never_false}
 use Rattle.odata_ranges.proofs.arithmetic_ranges.met.Goals as goal
 

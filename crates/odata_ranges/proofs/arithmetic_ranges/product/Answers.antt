@@ -1,7 +1,4 @@
-use Rattle.std.proofs.Common.{◌*ℤ◌, arith}
-use Rattle.std.specs.Int.{w128}
-use Rattle.std.specs.Prelude.{FitsSigned}
-use Rattle.std.proofs.lemmas.Int.{to_z-of_z}
+use Rattle.odata_ranges.proofs.Common.{◌*ℤ◌, arith, w128, FitsSigned, to_z-of_z}
 use Rattle.odata_ranges.proofs.Remainders.{small_product}
 use Rattle.odata_ranges.proofs.arithmetic_ranges.product.Goals as goal
 

@@ -1,7 +1,4 @@
-use Rattle.std.proofs.Common.{arith, rules}
-use Rattle.std.specs.Int.{w128}
-use Rattle.std.specs.Prelude.{FitsSigned}
-use Rattle.std.proofs.lemmas.Int.{ints, to_z-of_z}
+use Rattle.odata_ranges.proofs.Common.{arith, rules, w128, FitsSigned, ints, to_z-of_z}
 use Rattle.odata_ranges.proofs.Calculations.{quotient_reaches}
 use Rattle.odata_ranges.proofs.arithmetic_ranges.quotient_span.Goals as goal
 

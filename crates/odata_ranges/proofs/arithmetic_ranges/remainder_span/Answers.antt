@@ -1,5 +1,4 @@
-use Rattle.std.proofs.Common.{◌<◌, ◌≤ℤ◌, arith, unsigned_abs}
-use Rattle.std.proofs.lemmas.Int.{ints}
+use Rattle.odata_ranges.proofs.Common.{◌<◌, ◌≤ℤ◌, arith, unsigned_abs, ints}
 use Rattle.odata_ranges.proofs.Remainders.{near_side}
 use Rattle.odata_ranges.proofs.arithmetic_ranges.remainder_span.Goals as goal
 

@@ -1,5 +1,4 @@
-use Rattle.std.proofs.Common.{arith}
-use Rattle.std.proofs.lemmas.Int.{ints}
+use Rattle.odata_ranges.proofs.Common.{arith, ints}
 use Rattle.odata_ranges.proofs.arithmetic_ranges.span_of.Goals as goal
 
 pub returns-clause-least : goal.returns-clause-least

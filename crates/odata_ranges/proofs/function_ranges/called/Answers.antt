@@ -1,5 +1,4 @@
-use Rattle.std.proofs.Common.{inl, inr, refl, arith}
-use Rattle.std.proofs.lemmas.Int.{ints}
+use Rattle.odata_ranges.proofs.Common.{inl, inr, refl, arith, ints}
 use Rattle.odata_ranges.proofs.CallRanges as calls
 use Rattle.odata_ranges.proofs.function_ranges.called.Goals as goal
 

@@ -1,9 +1,4 @@
-use Rattle.std.proofs.Common.{inl, inr, pos, ◌≤ℤ◌, arith}
-use Rattle.std.specs.Int.{w32}
-use Rattle.std.specs.Prelude.{FitsSigned}
-use Rattle.std.proofs.lemmas.Int.{ints, by_lt_z}
-use Rattle.edm_values.specs.declared.primitive.PrimitiveType.TheVariants.{Int32}
-use Rattle.odata_ranges.specs.Within.{unbounded}
+use Rattle.odata_ranges.proofs.Common.{inl, inr, pos, ◌≤ℤ◌, arith, w32, FitsSigned, ints, by_lt_z, Int32, unbounded}
 use Rattle.odata_ranges.proofs.Calculations.{true_false}
 use Rattle.odata_ranges.proofs.Counts.{number_within}
 use Rattle.odata_ranges.proofs.function_ranges.counted.Goals as goal

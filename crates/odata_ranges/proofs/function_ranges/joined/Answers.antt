@@ -1,5 +1,4 @@
-use Rattle.std.proofs.Common.{inl, inr, arith}
-use Rattle.std.proofs.lemmas.Int.{ints}
+use Rattle.odata_ranges.proofs.Common.{inl, inr, arith, ints}
 use Rattle.odata_ranges.proofs.function_ranges.joined.Goals as goal
 
 pub returns-clause-bounded : goal.returns-clause-bounded

@@ -1,6 +1,4 @@
-use Rattle.std.proofs.Common.{◌<◌, ℕ, inl, inr, length, sym, ap, subst, rules}
-use Rattle.csdl_schema.specs.SchemaModel.{SchemaModel, properties_at}
-use Rattle.odata_ranges.specs.declared.range.Range.{Range}
+use Rattle.odata_ranges.proofs.Common.{◌<◌, ℕ, inl, inr, length, sym, subst, rules, SchemaModel, properties_at}
 use Rattle.odata_ranges.proofs.Holding.{it_holds, literal_holds, now_holds, property_holds, variable_holds}
 use Rattle.odata_ranges.proofs.Inside.{leaf_rest, literal_inside}
 use Rattle.odata_ranges.proofs.Quiet.{no_entity}
@@ -49,18 +47,6 @@ returns-in_default-clause-right c = record {
   ];
 }
 
-pub returns-in-Literal-clause-faults : goal.returns-in-Literal-clause-faults
-returns-in-Literal-clause-faults c = c.range_of_value.ensures.faults
-
-pub returns-in-Property-clause-faults : goal.returns-in-Property-clause-faults
-returns-in-Property-clause-faults c = c.of_value.ensures.faults
-
-pub returns-in-Variable-clause-faults : goal.returns-in-Variable-clause-faults
-returns-in-Variable-clause-faults c = c.of_value-in-Variable.ensures.faults
-
-pub returns-in_default-clause-faults : goal.returns-in_default-clause-faults
-returns-in_default-clause-faults c = ap (λ (r : Range). r.may_fault) c.plain.ensures
-
 pub returns-in-Literal-clause-entity : goal.returns-in-Literal-clause-entity
 returns-in-Literal-clause-entity c = λ it. absurd (no_entity c.in-Literal.is tt it)
 
@@ -69,6 +55,3 @@ returns-in-Property-clause-entity c = λ it. absurd (no_entity c.in-Property.is 
 
 pub returns-in-Variable-clause-entity : goal.returns-in-Variable-clause-entity
 returns-in-Variable-clause-entity c = λ it. absurd (no_entity c.in-Variable.is tt it)
-
-pub returns-in_default-clause-entity : goal.returns-in_default-clause-entity
-returns-in_default-clause-entity c = λ it. ap (λ (r : Range). r.may_be_null) c.plain.ensures

@@ -1,5 +1,4 @@
-use Rattle.std.proofs.Common.{◌<◌, ◌≤◌, ◌+◌, ◌∙◌, inr, length, refl, sym, subst, arith}
-use Rattle.csdl_schema.specs.SchemaModel.{SchemaModel, properties_at}
+use Rattle.odata_ranges.proofs.Common.{◌<◌, ◌≤◌, ◌+◌, ◌∙◌, inr, length, refl, sym, subst, arith, SchemaModel, properties_at}
 use Rattle.odata_ranges.proofs.Flags.{of_left, of_right}
 use Rattle.odata_ranges.proofs.Holding.{step_holds}
 use Rattle.odata_ranges.proofs.Inside.{step_kind}

@@ -1,20 +1,17 @@
-use Rattle.std.proofs.Common.{ap, arith}
-use Rattle.odata_ranges.specs.declared.range.Range.{Range}
+use Rattle.odata_ranges.proofs.Common.{ap, arith, Range}
 use Rattle.odata_ranges.proofs.Flags.{neither}
 use Rattle.odata_ranges.proofs.LinesOn.{begins_onward, ends_onward, next_within, rest_inside, steps_onward}
 use Rattle.odata_ranges.proofs.list_ranges.flags_between.Goals as goal
 
 pub node_at-node-requires : goal.node_at-node-requires
 node_at-node-requires c =
-    let stands = c.requires.lie in
-    let left = c.loop-at.invariant.line stands.0 stands.1 stands.2 in
-    rest_inside c.args.checked.now stands.0 c.loop-at.at c.args.stop c.loop-at-test.true left.rest left.stand
+    let left = c.loop-at.invariant.line c.requires.lie.0 c.requires.lie.1 c.requires.lie.2 in
+    rest_inside c.args.checked.now c.requires.lie.0 c.loop-at.at c.args.stop c.loop-at-test.true left.rest left.stand
 
 pub range_in-range-requires : goal.range_in-range-requires
 range_in-range-requires c =
-    let stands = c.requires.lie in
-    let left = c.loop-at.invariant.line stands.0 stands.1 stands.2 in
-    let there = rest_inside c.args.checked.now stands.0 c.loop-at.at c.args.stop c.loop-at-test.true left.rest left.stand in
+    let left = c.loop-at.invariant.line c.requires.lie.0 c.requires.lie.1 c.requires.lie.2 in
+    let there = rest_inside c.args.checked.now c.requires.lie.0 c.loop-at.at c.args.stop c.loop-at-test.true left.rest left.stand in
     omega (arith, there, c.requires.as_many)
 
 pub loop-at-init : goal.loop-at-init
@@ -27,9 +24,8 @@ loop-at-init c = record {
 pub loop-at-preserved : goal.loop-at-preserved
 loop-at-preserved c =
     let l = c.loop-at in
-    let stands = c.requires.lie in
-    let left = l.invariant.line stands.0 stands.1 stands.2 in
-    let next = next_within c.args.checked.now c.args.ranges.now stands.0 l.at c.args.stop c.node_at-node.result c.node_at-node.ensures.found c.loop-at-test.true left.rest left.stand in
+    let left = l.invariant.line c.requires.lie.0 c.requires.lie.1 c.requires.lie.2 in
+    let next = next_within c.args.checked.now c.args.ranges.now c.requires.lie.0 l.at c.args.stop c.node_at-node.result c.node_at-node.ensures.found c.loop-at-test.true left.rest left.stand in
     record {
       line = steps_onward c.args.checked.now c.args.ranges.now l.flags c.joined-flags.result c.range_in-range.result c.args.from c.args.stop l.at c.node_at-node.result
           l.invariant.line c.loop-at-test.true c.node_at-node.ensures.found c.range_in-range.ensures c.joined-flags.ensures.first c.joined-flags.ensures.second;
@@ -41,14 +37,10 @@ loop-at-preserved c =
 
 pub loop-at-smaller : goal.loop-at-smaller
 loop-at-smaller c =
-    let stands = c.requires.lie in
-    let left = c.loop-at.invariant.line stands.0 stands.1 stands.2 in
-    let next = next_within c.args.checked.now c.args.ranges.now stands.0 c.loop-at.at c.args.stop c.node_at-node.result c.node_at-node.ensures.found c.loop-at-test.true left.rest left.stand in
+    let left = c.loop-at.invariant.line c.requires.lie.0 c.requires.lie.1 c.requires.lie.2 in
+    let next = next_within c.args.checked.now c.args.ranges.now c.requires.lie.0 c.loop-at.at c.args.stop c.node_at-node.result c.node_at-node.ensures.found c.loop-at-test.true left.rest left.stand in
     let before = c.loop-at-test.true in
     omega (arith, next.0, next.1, before)
 
 pub returns-clause-covers : goal.returns-clause-covers
 returns-clause-covers c = ends_onward c.args.checked.now c.args.ranges.now c.loop-at.flags c.args.from c.args.stop c.loop-at.at c.loop-at.invariant.line c.loop-at-test.false
-
-pub returns-clause-quiet : goal.returns-clause-quiet
-returns-clause-quiet c = c.loop-at.invariant.quiet

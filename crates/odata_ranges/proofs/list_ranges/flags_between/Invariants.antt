@@ -1,5 +1,4 @@
-use Rattle.std.proofs.Common.{◌≡◌, ◌≤◌, ◌-◌, false}
-use Rattle.odata_ranges.specs.Faults.{AreQuiet}
+use Rattle.odata_ranges.proofs.Common.{◌≡◌, ◌≤◌, ◌-◌, false, AreQuiet}
 use Rattle.odata_ranges.proofs.LinesOn.{IsOnward}
 use Rattle.odata_ranges.proofs.list_ranges.flags_between.Given as goal
 

@@ -1,10 +1,4 @@
-use Rattle.std.proofs.Common.{◌≡◌, ◌<◌, ◌≤◌, ◌+◌, ℕ, Some, slice_get, sym, ap, subst, arith}
-use Rattle.odata_syntax.specs.Tree.{more_trees}
-use Rattle.odata_checked_filter.specs.declared.checked_node.CheckedNode.{CheckedNode}
-use Rattle.odata_checked_filter.specs.declared.checked_node.NodeKind.{NodeKind}
-use Rattle.odata_checked_filter.proofs.flat.Places.{same_found}
-use Rattle.odata_ranges.specs.Reach.{IsBounded}
-use Rattle.odata_ranges.specs.Faults.{MakesNone}
+use Rattle.odata_ranges.proofs.Common.{◌≡◌, ◌<◌, ◌≤◌, ◌+◌, ℕ, Some, slice_get, sym, ap, subst, arith, more_trees, CheckedNode, NodeKind, same_found, IsBounded, MakesNone}
 use Rattle.odata_ranges.proofs.Flags.{neither}
 use Rattle.odata_ranges.proofs.HoldingLines.{call_holds, wider_within}
 use Rattle.odata_ranges.proofs.Inside.{argument_inside, arguments_here, call_kind, further_inside, second_inside}

@@ -1,5 +1,4 @@
-use Rattle.std.proofs.Common.{ap, rules}
-use Rattle.odata_ranges.specs.declared.range.Range.{Range}
+use Rattle.odata_ranges.proofs.Common.{ap, rules, Range}
 use Rattle.odata_ranges.proofs.Flags.{neither, of_right}
 use Rattle.odata_ranges.proofs.HoldingLines.{list_holds}
 use Rattle.odata_ranges.proofs.Inside.{list_kind, list_stands}

@@ -1,7 +1,4 @@
-use Rattle.std.proofs.Common.{◌≡◌, List, length, sym, ap, subst, arith}
-use Rattle.odata_checked_filter.specs.declared.checked_node.CheckedNode.{CheckedNode}
-use Rattle.odata_checked_filter.proofs.flat.Places.{found_before, same_found}
-use Rattle.odata_ranges.specs.Owners.{IsOwnerAt, NamesSlotOf}
+use Rattle.odata_ranges.proofs.Common.{◌≡◌, List, length, sym, ap, subst, arith, CheckedNode, found_before, same_found, IsOwnerAt, NamesSlotOf}
 use Rattle.odata_ranges.proofs.PropertyOwners.{if_none, named_member, named_property, property_owned, step_inside, step_owned, step_type}
 use Rattle.odata_ranges.proofs.named_properties.owner_of.Goals.{in-Member+else-prove+in_default-structured_type, in_default}
 use Rattle.odata_ranges.proofs.named_properties.owner_of.Goals as goal

@@ -1,6 +1,4 @@
-use Rattle.std.proofs.Common.{◌≡◌, ◌<◌, ℕ, List, Some, get_or, length, slice_get, sym, subst, ap, ◌∙◌}
-use Rattle.std.proofs.lemmas.Option.{slice_get-get_or}
-use Rattle.odata_checked_filter.specs.declared.checked_node.CheckedNode.{CheckedNode}
+use Rattle.odata_ranges.proofs.Common.{◌≡◌, ◌<◌, ℕ, List, Some, get_or, length, slice_get, sym, subst, ap, ◌∙◌, slice_get-get_or, CheckedNode}
 use Rattle.odata_ranges.proofs.node_lookups.node_at.Goals as goal
 
 there : (xs ys : List CheckedNode) (k : ℕ) (d : CheckedNode) → xs ≡ ys → k < length ys → slice_get ys k ≡ Some (get_or xs k d)

@@ -1,22 +1,15 @@
-use Rattle.std.proofs.Common.{◌≡◌, ◌∙◌, true, sym, ap}
-use Rattle.odata_signatures.specs.declared.edm_type.EdmType.{EdmType}
-use Rattle.odata_signatures.specs.declared.edm_type.ValueType.{ValueType}
-use Rattle.odata_ranges.specs.declared.range.Range.{Range}
+use Rattle.odata_ranges.proofs.Common.{◌≡◌, ◌∙◌, sym, ap, EdmType, ValueType, Range}
 use Rattle.odata_ranges.proofs.ArithmeticTypes.{in_null_type, in_number_type}
-use Rattle.odata_ranges.proofs.Flags.{neither, of_left, of_right}
+use Rattle.odata_ranges.proofs.Flags.{both_faults, neither, of_left, of_right}
 use Rattle.odata_ranges.proofs.HoldingLines.{wider_within}
 use Rattle.odata_ranges.proofs.operator_ranges.of_arithmetic.Goals as goal
 
 pub returns-in-Some-clause-holds : goal.returns-in-Some-clause-holds
 returns-in-Some-clause-holds c =
     let fault_is = ap (λ (r : Range). r.may_fault) c.with_faults.ensures in
-    let flags : c.either-faults.result ≡ true → c.with_faults.result.may_fault ≡ true = λ may.
-    of_right c.with_faults.result.may_fault c.calculated.result.may_fault c.either-faults.result fault_is may in
     in_number_type c.args.operator c.args.edm_type c.in-Some.prim c.args.left c.args.right c.calculated.result c.with_faults.result c.in-Some.ensures.some c.calculated.ensures.within
-    (record {
-      first = λ may. flags (of_left c.either-faults.result c.args.left.may_fault c.args.right.may_fault c.either-faults.ensures may);
-      second = λ may. flags (of_right c.either-faults.result c.args.left.may_fault c.args.right.may_fault c.either-faults.ensures may);
-    })
+    (both_faults c.with_faults.result c.args.left c.args.right c.either-faults.result c.either-faults.ensures
+    (of_right c.with_faults.result.may_fault c.calculated.result.may_fault c.either-faults.result fault_is))
     (λ o. wider_within c.calculated.result c.with_faults.result o
     (of_left c.with_faults.result.may_fault c.calculated.result.may_fault c.either-faults.result fault_is)
     (λ may. ap (λ (r : Range). r.may_be_null) c.with_faults.ensures ∙ may) (ap (λ (r : Range). r.low) c.with_faults.ensures) (ap (λ (r : Range). r.high) c.with_faults.ensures))
@@ -24,10 +17,7 @@ returns-in-Some-clause-holds c =
 pub returns-in-None-clause-holds : goal.returns-in-None-clause-holds
 returns-in-None-clause-holds c =
     in_null_type c.args.operator c.args.edm_type c.args.left c.args.right c.truth.result c.in-None.ensures.none
-    (record {
-      first = λ may. c.truth.ensures.fault ∙ of_left c.either-faults.result c.args.left.may_fault c.args.right.may_fault c.either-faults.ensures may;
-      second = λ may. c.truth.ensures.fault ∙ of_right c.either-faults.result c.args.left.may_fault c.args.right.may_fault c.either-faults.ensures may;
-    })
+    (both_faults c.truth.result c.args.left c.args.right c.either-faults.result c.either-faults.ensures (λ may. c.truth.ensures.fault ∙ may))
     c.truth.ensures.null
 
 pub returns-in-Some-clause-quiet : goal.returns-in-Some-clause-quiet

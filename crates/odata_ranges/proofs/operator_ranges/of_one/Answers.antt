@@ -1,8 +1,4 @@
-use Rattle.std.proofs.Common.{◌∙◌, ap, subst, arith, rules}
-use Rattle.std.proofs.lemmas.Int.{ints}
-use Rattle.odata_checked_filter.specs.declared.checked_node.NodeKind.{NodeKind}
-use Rattle.odata_ranges.specs.Faults.{MakesNone}
-use Rattle.odata_ranges.specs.declared.range.Range.{Range}
+use Rattle.odata_ranges.proofs.Common.{◌∙◌, ap, subst, arith, rules, ints, NodeKind, MakesNone, Range}
 use Rattle.odata_ranges.proofs.HoldingOne.{any_item_holds, count_holds, negation_holds, not_holds}
 use Rattle.odata_ranges.proofs.Inside.{not_kind, one_inside}
 use Rattle.odata_ranges.proofs.Quiet.{one_known, own_above}
@@ -26,12 +22,10 @@ of_arithmetic-requires c =
 pub returns-in-Count : goal.returns-in-Count
 returns-in-Count c =
     let operand = one_known c.requires.form c.requires.known c.range_in-operand.ensures in
-    let low = ap (λ (r : Range). r.low) c.between.ensures in
-    let high = ap (λ (r : Range). r.high) c.between.ensures in
     own_above c.requires.form tt (record {
       bounded = search rules;
       holds = count_holds c.trees_have_one_type.ensures c.args.checked.now c.args.place c.args.node c.requires.form.at c.range_in-operand.result c.between.result operand.right.holds
-          c.in-Count.is (λ may. ap (λ (r : Range). r.may_be_null) c.between.ensures ∙ may) (omega (arith, ints, low)) (omega (arith, ints, high));
+          c.in-Count.is (λ may. ap (λ (r : Range). r.may_be_null) c.between.ensures ∙ may) (omega (arith, ints, ap (λ (r : Range). r.low) c.between.ensures)) (omega (arith, ints, ap (λ (r : Range). r.high) c.between.ensures));
     })
     (λ makes quiet. ap (λ (r : Range). r.may_fault) c.between.ensures)
 
@@ -48,12 +42,10 @@ returns-in-AnyItem c =
 pub returns-in-Neg : goal.returns-in-Neg
 returns-in-Neg c =
     let operand = one_known c.requires.form c.requires.known c.range_in-operand.ensures in
-    let low = ap (λ (r : Range). r.low) c.plain-zero.ensures in
-    let high = ap (λ (r : Range). r.high) c.plain-zero.ensures in
     own_above c.requires.form tt (record {
       bounded = c.of_arithmetic.ensures.bounded;
       holds = negation_holds c.trees_have_one_type.ensures c.args.checked.now c.args.place c.args.node c.requires.form.at c.range_in-operand.result c.of_arithmetic.result operand.right.holds
-          c.plain-zero.result c.in-Neg.is (omega (arith, ints, low), omega (arith, ints, high)) c.of_arithmetic.ensures.holds;
+          c.plain-zero.result c.in-Neg.is (omega (arith, ints, ap (λ (r : Range). r.low) c.plain-zero.ensures), omega (arith, ints, ap (λ (r : Range). r.high) c.plain-zero.ensures)) c.of_arithmetic.ensures.holds;
     })
     (λ makes quiet. c.of_arithmetic.ensures.quiet (subst (λ (k : NodeKind). MakesNone k c.args.node.edm_type) c.in-Neg.is makes)
     (ap (λ (r : Range). r.may_fault) c.plain-zero.ensures) (operand.quiet quiet))

@@ -1,38 +1,23 @@
-use Rattle.std.proofs.Common.{◌∙◌, sym, subst}
-use Rattle.odata_syntax.specs.declared.binary_operator.BinaryOperator.{BinaryOperator}
-use Rattle.odata_checked_filter.specs.declared.checked_node.NodeKind.{NodeKind}
-use Rattle.odata_ranges.specs.Faults.{MakesNone}
-use Rattle.odata_ranges.specs.private.OperatorRanges.{HoldsOperator, IsNumericIn}
-use Rattle.odata_ranges.proofs.Flags.{neither, of_left, of_right}
+use Rattle.odata_ranges.proofs.Common.{◌∙◌, subst, BinaryOperator, NodeKind, MakesNone}
+use Rattle.odata_ranges.proofs.Flags.{both_faults, both_nulls, neither}
 use Rattle.odata_ranges.proofs.operator_ranges.of_operator.Goals as goal
 
 pub of_arithmetic-requires-clause-numeric : goal.of_arithmetic-requires-clause-numeric
-of_arithmetic-requires-clause-numeric c =
-    subst (λ (k : BinaryOperator). IsNumericIn k c.args.edm_type) c.in-Arithmetic.is c.requires.numeric
+of_arithmetic-requires-clause-numeric c = rw c.in-Arithmetic.is at c.requires.numeric
 
 pub returns-in-Logical-clause-holds : goal.returns-in-Logical-clause-holds
-returns-in-Logical-clause-holds c =
-    subst (λ (k : BinaryOperator). HoldsOperator k c.args.edm_type c.args.left c.args.right c.truth.result) (sym c.in-Logical.is) (
-      record {
-        first = λ may. c.truth.ensures.fault ∙ of_left c.either-faults.result c.args.left.may_fault c.args.right.may_fault c.either-faults.ensures may;
-        second = λ may. c.truth.ensures.fault ∙ of_right c.either-faults.result c.args.left.may_fault c.args.right.may_fault c.either-faults.ensures may;
-      },
-      record {
-        first = λ may. c.truth.ensures.null ∙ of_left c.either-nulls.result c.args.left.may_be_null c.args.right.may_be_null c.either-nulls.ensures may;
-        second = λ may. c.truth.ensures.null ∙ of_right c.either-nulls.result c.args.left.may_be_null c.args.right.may_be_null c.either-nulls.ensures may;
-      },
-    )
+returns-in-Logical-clause-holds c = rw c.in-Logical.is (
+  both_faults c.truth.result c.args.left c.args.right c.either-faults.result c.either-faults.ensures (λ may. c.truth.ensures.fault ∙ may),
+  both_nulls c.truth.result c.args.left c.args.right c.either-nulls.result c.either-nulls.ensures (λ may. c.truth.ensures.null ∙ may),
+)
 
 pub returns-in-Comparison-clause-holds : goal.returns-in-Comparison-clause-holds
 returns-in-Comparison-clause-holds c =
-    subst (λ (k : BinaryOperator). HoldsOperator k c.args.edm_type c.args.left c.args.right c.truth-in-Comparison.result) (sym c.in-Comparison.is) (record {
-      first = λ may. c.truth-in-Comparison.ensures.fault ∙ of_left c.either-faults.result c.args.left.may_fault c.args.right.may_fault c.either-faults.ensures may;
-      second = λ may. c.truth-in-Comparison.ensures.fault ∙ of_right c.either-faults.result c.args.left.may_fault c.args.right.may_fault c.either-faults.ensures may;
-    })
+    rw c.in-Comparison.is
+    (both_faults c.truth-in-Comparison.result c.args.left c.args.right c.either-faults.result c.either-faults.ensures (λ may. c.truth-in-Comparison.ensures.fault ∙ may))
 
 pub returns-in-Arithmetic-clause-holds : goal.returns-in-Arithmetic-clause-holds
-returns-in-Arithmetic-clause-holds c =
-    subst (λ (k : BinaryOperator). HoldsOperator k c.args.edm_type c.args.left c.args.right c.of_arithmetic.result) (sym c.in-Arithmetic.is) c.of_arithmetic.ensures.holds
+returns-in-Arithmetic-clause-holds c = rw c.in-Arithmetic.is c.of_arithmetic.ensures.holds
 
 pub returns-in-Logical-clause-quiet : goal.returns-in-Logical-clause-quiet
 returns-in-Logical-clause-quiet c = λ makes left right.

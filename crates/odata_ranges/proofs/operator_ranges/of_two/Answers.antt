@@ -1,7 +1,5 @@
-use Rattle.std.proofs.Common.{◌∙◌, refl, subst, arith}
-use Rattle.odata_checked_filter.specs.declared.checked_node.NodeKind.{NodeKind}
-use Rattle.odata_ranges.specs.Faults.{MakesNone}
-use Rattle.odata_ranges.proofs.Flags.{neither, of_left, of_right}
+use Rattle.odata_ranges.proofs.Common.{◌∙◌, refl, subst, arith, NodeKind, MakesNone}
+use Rattle.odata_ranges.proofs.Flags.{both_faults, neither, of_left, of_right}
 use Rattle.odata_ranges.proofs.HoldingNodes.{has_holds, in_path_holds, lambda_holds, operator_holds}
 use Rattle.odata_ranges.proofs.Inside.{lambda_kind, two_inside}
 use Rattle.odata_ranges.proofs.Quiet.{own_above, two_known}
@@ -41,8 +39,7 @@ returns-in-Binary c =
           c.in-Binary.operator c.in-Binary.is c.of_operator.ensures.holds;
     })
     (λ makes quiet.
-    let both = known.quiet quiet in
-    c.of_operator.ensures.quiet (subst (λ (k : NodeKind). MakesNone k c.args.node.edm_type) c.in-Binary.is makes) both.0 both.1)
+    c.of_operator.ensures.quiet (subst (λ (k : NodeKind). MakesNone k c.args.node.edm_type) c.in-Binary.is makes) (known.quiet quiet).0 (known.quiet quiet).1)
 
 pub returns-in-Has : goal.returns-in-Has
 returns-in-Has c =
@@ -51,16 +48,12 @@ returns-in-Has c =
       bounded = c.truth.ensures.bounded;
       holds = has_holds c.trees_have_one_type.ensures c.args.checked.now c.args.place c.args.node c.node_at-next.result c.requires.form.at
           c.node_at-next.ensures.found c.range_in-left.result c.range_in-right.result c.truth.result known.first.holds known.second.holds
-          c.in-Has.is (record {
-            first = λ may. c.truth.ensures.fault ∙ of_left c.either-faults.result c.range_in-left.result.may_fault c.range_in-right.result.may_fault c.either-faults.ensures may;
-            second = λ may. c.truth.ensures.fault ∙ of_right c.either-faults.result c.range_in-left.result.may_fault c.range_in-right.result.may_fault c.either-faults.ensures may;
-          })
+          c.in-Has.is (both_faults c.truth.result c.range_in-left.result c.range_in-right.result c.either-faults.result c.either-faults.ensures (λ may. c.truth.ensures.fault ∙ may))
           (λ may. c.truth.ensures.null ∙ of_left c.either-nulls.result c.range_in-left.result.may_be_null c.range_in-right.result.may_be_null c.either-nulls.ensures may)
           (λ may. c.truth.ensures.null ∙ of_right c.either-nulls.result c.range_in-left.result.may_be_null c.range_in-right.result.may_be_null c.either-nulls.ensures may);
     })
     (λ makes quiet.
-    let both = known.quiet quiet in
-    c.truth.ensures.fault ∙ neither c.either-faults.result c.range_in-left.result.may_fault c.range_in-right.result.may_fault c.either-faults.ensures both.0 both.1)
+    c.truth.ensures.fault ∙ neither c.either-faults.result c.range_in-left.result.may_fault c.range_in-right.result.may_fault c.either-faults.ensures (known.quiet quiet).0 (known.quiet quiet).1)
 
 pub returns-in-InPath : goal.returns-in-InPath
 returns-in-InPath c =
@@ -69,15 +62,11 @@ returns-in-InPath c =
       bounded = c.truth-in-InPath.ensures.bounded;
       holds = in_path_holds c.trees_have_one_type.ensures c.args.checked.now c.args.place c.args.node c.node_at-next.result c.requires.form.at
           c.node_at-next.ensures.found c.range_in-left.result c.range_in-right.result c.truth-in-InPath.result known.first.holds known.second.holds
-          c.in-InPath.is (record {
-            first = λ may. c.truth-in-InPath.ensures.fault ∙ of_left c.either-faults.result c.range_in-left.result.may_fault c.range_in-right.result.may_fault c.either-faults.ensures may;
-            second = λ may. c.truth-in-InPath.ensures.fault ∙ of_right c.either-faults.result c.range_in-left.result.may_fault c.range_in-right.result.may_fault c.either-faults.ensures may;
-          })
+          c.in-InPath.is (both_faults c.truth-in-InPath.result c.range_in-left.result c.range_in-right.result c.either-faults.result c.either-faults.ensures (λ may. c.truth-in-InPath.ensures.fault ∙ may))
           (λ may. c.truth-in-InPath.ensures.null ∙ may);
     })
     (λ makes quiet.
-    let both = known.quiet quiet in
-    c.truth-in-InPath.ensures.fault ∙ neither c.either-faults.result c.range_in-left.result.may_fault c.range_in-right.result.may_fault c.either-faults.ensures both.0 both.1)
+    c.truth-in-InPath.ensures.fault ∙ neither c.either-faults.result c.range_in-left.result.may_fault c.range_in-right.result.may_fault c.either-faults.ensures (known.quiet quiet).0 (known.quiet quiet).1)
 
 pub returns-in_default : goal.returns-in_default
 returns-in_default c =
@@ -91,5 +80,4 @@ returns-in_default c =
           (λ may. c.truth-in_default.ensures.fault ∙ of_right c.either-faults.result c.range_in-left.result.may_fault c.range_in-right.result.may_fault c.either-faults.ensures may);
     })
     (λ makes quiet.
-    let both = known.quiet quiet in
-    c.truth-in_default.ensures.fault ∙ neither c.either-faults.result c.range_in-left.result.may_fault c.range_in-right.result.may_fault c.either-faults.ensures both.0 both.1)
+    c.truth-in_default.ensures.fault ∙ neither c.either-faults.result c.range_in-left.result.may_fault c.range_in-right.result.may_fault c.either-faults.ensures (known.quiet quiet).0 (known.quiet quiet).1)

@@ -1,17 +1,11 @@
 use Rattle.std.proofs.Common.{refl, arith}
 use Rattle.odata_ranges.proofs.Ends.{node_onward}
 use Rattle.odata_ranges.proofs.Flags.{both_none, neither}
-use Rattle.odata_ranges.proofs.Quiet.{none_yet, quiet_on}
+use Rattle.odata_ranges.proofs.Quiet.{quiet_on}
 use Rattle.odata_ranges.proofs.ranges.any_fault.Goals as goal
 
-pub node_at-node-requires : goal.node_at-node-requires
-node_at-node-requires c = let before = c.loop-at-test.true in omega (arith, before, c.requires.inside)
-
-pub range_in-range-requires : goal.range_in-range-requires
-range_in-range-requires c = let before = c.loop-at-test.true in omega (arith, before, c.requires.inside, c.requires.as_many)
-
 pub loop-at-init : goal.loop-at-init
-loop-at-init c = record { onward = omega arith; none = λ none. none_yet c.args.ranges.now c.args.from; one = λ quiet. refl }
+loop-at-init c = record { onward = omega arith; none = λ none place range after before found. absurd (omega (arith, after, before)); one = λ quiet. refl }
 
 pub loop-at-preserved : goal.loop-at-preserved
 loop-at-preserved c =
@@ -38,6 +32,3 @@ pub returns-clause-none : goal.returns-clause-none
 returns-clause-none c = λ none place range after within found.
     let past = c.loop-at-test.false in
     c.loop-at.invariant.none none place range after (omega (arith, past, within)) found
-
-pub returns-clause-one : goal.returns-clause-one
-returns-clause-one c = c.loop-at.invariant.one

@@ -1,5 +1,4 @@
-use Rattle.std.proofs.Common.{◌≡◌, ◌≤◌, ◌-◌, false}
-use Rattle.odata_ranges.specs.Faults.{AreQuiet}
+use Rattle.odata_ranges.proofs.Common.{◌≡◌, ◌≤◌, ◌-◌, false, AreQuiet}
 use Rattle.odata_ranges.proofs.ranges.any_fault.Given as goal
 
 -- none is found up to an index that is quiet so far, and none before a stop up to which it is

@@ -1,9 +1,6 @@
 use Rattle.std.proofs.Common.{◌∙◌, [], ◌∷◌, length, length-append, ap, arith}
 use Rattle.odata_ranges.proofs.ranges.blank.Goals as goal
 
-pub loop-made-init : goal.loop-made-init
-loop-made-init c = (ap length c.in_ok-ranges.ensures.items, omega arith)
-
 pub loop-made-preserved : goal.loop-made-preserved
 loop-made-preserved c =
     let l = c.loop-made in

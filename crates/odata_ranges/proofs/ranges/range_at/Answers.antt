@@ -1,8 +1,4 @@
-use Rattle.std.proofs.Common.{◌∙◌, ap, subst}
-use Rattle.odata_checked_filter.specs.declared.checked_node.CheckedNode.{CheckedNode}
-use Rattle.odata_checked_filter.proofs.flat.Places.{same_found}
-use Rattle.odata_ranges.specs.Faults.{ReportsFaults}
-use Rattle.odata_ranges.specs.declared.range.Range.{Range}
+use Rattle.odata_ranges.proofs.Common.{◌∙◌, ap, subst, CheckedNode, same_found, ReportsFaults, Range}
 use Rattle.odata_ranges.proofs.Ends.{stop_inside}
 use Rattle.odata_ranges.proofs.Flags.{both_none, neither, of_left}
 use Rattle.odata_ranges.proofs.HoldingLines.{wider_within}

@@ -1,7 +1,4 @@
-use Rattle.std.proofs.Common.{◌≡◌, ◌<◌, ◌+◌, ◌-◌, ◌∙◌, ℕ, List, length, length-set, sym, ap, subst, arith}
-use Rattle.odata_ranges.specs.Faults.{AreReportedFrom, ReportsFaults}
-use Rattle.odata_ranges.specs.Ranges.{AreRangesFrom}
-use Rattle.odata_ranges.specs.declared.range.Range.{Range}
+use Rattle.odata_ranges.proofs.Common.{◌≡◌, ◌<◌, ◌+◌, ◌-◌, ◌∙◌, ℕ, List, length, length-set, sym, ap, subst, arith, AreReportedFrom, ReportsFaults, AreRangesFrom, Range}
 use Rattle.odata_ranges.proofs.Put.{none_after, none_reported, put_range, put_reported}
 use Rattle.odata_ranges.proofs.QuietTypes.{all_quiet}
 use Rattle.odata_ranges.proofs.ranges.ranges_of.Goals as goal
@@ -16,9 +13,6 @@ loop-place-init c =
       each = none_after c.args.checked.now c.in_ok-ranges.ranges.items (length c.nodes-count.result.now) (omega (arith, long));
       reported = none_reported c.args.checked.now c.in_ok-ranges.ranges.items (length c.nodes-count.result.now) (omega (arith, long));
     }
-
-pub range_at-found-requires-clause-inside : goal.range_at-found-requires-clause-inside
-range_at-found-requires-clause-inside c = omega (arith, c.loop-place.invariant.within)
 
 pub range_at-found-requires-clause-known : goal.range_at-found-requires-clause-known
 range_at-found-requires-clause-known c =

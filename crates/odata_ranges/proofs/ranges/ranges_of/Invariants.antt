@@ -1,6 +1,4 @@
-use Rattle.std.proofs.Common.{◌≡◌, ◌≤◌, length}
-use Rattle.odata_ranges.specs.Faults.{AreReportedFrom}
-use Rattle.odata_ranges.specs.Ranges.{AreRangesFrom}
+use Rattle.odata_ranges.proofs.Common.{◌≡◌, ◌≤◌, length, AreReportedFrom, AreRangesFrom}
 use Rattle.odata_ranges.proofs.ranges.ranges_of.Given as goal
 
 -- the ranges from the index on are right

@@ -9,7 +9,7 @@ use Rattle.odata_typing.specs.private.Variables.{IsNamedBy, scope_of}
 use Rattle.odata_typing.proofs.flat.Idle.{idle_bound, idle_name}
 use Rattle.odata_typing.proofs.flat.Kept.{navigated_more, same_more}
 use Rattle.odata_typing.proofs.placed.Leaves.{name_put, name_refused_so}
-use Rattle.odata_typing.proofs.scopes.Scopes.{bound_typed, unbound_typed}
+use Rattle.odata_typing.proofs.scopes.Scopes.{bound_typed, unbound_types}
 use Rattle.odata_typing.proofs.property_node.checked_name.Goals as goal
 
 pub returns-in-Some : goal.returns-in-Some
@@ -24,7 +24,7 @@ returns-in-Some c =
     c.put_property.new.walk (NodeKind.Property c.in-Some.slot) c.in-Some.edm_type _ c.requires.leaf more
     (ap (λ (w : Walk). w.fault) c.in-Some.ensures.walk ∙ c.requires.ready.ready.fresh)
     (unbound.0, c.in-Some.ensures.slot)
-    (unbound_typed (slots_of schema) (type_name_at schema context.filtered_type) scope (name_of context judged) (expr_type schema c.in-Some.edm_type) unbound.1 c.in-Some.ensures.typed)
+    ((unbound_types (slots_of schema) (type_name_at schema context.filtered_type) scope (name_of context judged) (expr_type schema c.in-Some.edm_type) unbound.1).1 c.in-Some.ensures.typed)
     c.in-Some.ensures.there
     (λ idle. idle_name (slots_of schema) (type_name_at schema context.filtered_type) scope judged.node.now.span.start judged.node.now.span.stop (name_of context judged) (c.in-Some.ensures.idle idle))
     c.put.ensures.goes_on

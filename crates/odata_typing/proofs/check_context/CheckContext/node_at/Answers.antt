@@ -1,27 +1,12 @@
-use Rattle.std.proofs.Common.{◌≡◌, ◌∙◌, sym, ap, subst, ℕ, ◌<◌, ◌≤◌, ◌+◌, ◌-◌, List, Some, length, take, get_or, slice_get, arith}
-use Rattle.std.proofs.lemmas.List.{length-reverse, length-take-le}
+use Rattle.std.proofs.Common.{◌≡◌, ◌∙◌, sym, ap, subst, ℕ, ◌<◌, ◌≤◌, ◌+◌, ◌-◌, List, Some, length, get_or, slice_get, arith}
 use Rattle.std.specs.Option.{option_map}
 use Rattle.std.proofs.lemmas.Option.{slice_get-get_or, slice_get-map}
-use Rattle.odata_syntax.specs.Places.{ArePlaces, first_at, first_of, nodes_before, number_at, number_of, places_of, stop_at}
+use Rattle.odata_syntax.specs.Places.{ArePlaces, first_at, first_of, number_at, number_of, places_of, stop_at}
 use Rattle.odata_syntax.specs.declared.node.LiteralKind.{LiteralKind}
-use Rattle.odata_syntax.specs.declared.node_places.Place.{Place}
 use Rattle.odata_syntax.specs.declared.syntax_list.SyntaxKind.{SyntaxKind}
 use Rattle.odata_syntax.specs.declared.syntax_list.SyntaxNode.{SyntaxNode}
 use Rattle.odata_typing.proofs.check_context.CheckContext.node_at.Goals as goal
-
-before_length : (nodes : List SyntaxNode) (index : ℕ) → index < length nodes → length (nodes_before nodes index) ≡ index
-before_length nodes index inside = length-reverse (take index nodes) ∙ length-take-le index nodes (omega arith)
-
-module _ (nodes : List SyntaxNode) (places : List Place) (index : ℕ) (n : SyntaxNode) (are : ArePlaces nodes places) (inside : index < length nodes) (at : slice_get nodes index ≡ Some n) where
-  begins : first_at places index ≤ index
-  begins =
-      let same : length (nodes_before nodes index) ≡ index = before_length nodes index inside in
-      rw same at (are.placed index n at).order
-
-  ends : stop_at places index ≤ length places
-  ends =
-      let same : length (nodes_before nodes index) ≡ index = before_length nodes index inside in
-      rw same at (are.placed index n at).within
+use Rattle.odata_typing.proofs.stacks.Placed.{node_within}
 
 module _ (nodes : List SyntaxNode) (index : ℕ) (d : SyntaxNode) (are : ArePlaces nodes (places_of nodes)) (inside : index < length nodes) where
   place_is : slice_get (places_of nodes) index ≡ Some (get_or nodes index d).place
@@ -37,7 +22,7 @@ module _ (nodes : List SyntaxNode) (index : ℕ) (d : SyntaxNode) (are : ArePlac
 
   first_below : (get_or nodes index d).place.first ≤ index
   first_below =
-      let low : first_at (places_of nodes) index ≤ index = begins nodes (places_of nodes) index (get_or nodes index d) are inside (slice_get-get_or nodes index d inside) in
+      let low : first_at (places_of nodes) index ≤ index = (node_within nodes (places_of nodes) index (get_or nodes index d) are (slice_get-get_or nodes index d inside)).0 in
       let same : first_at (places_of nodes) index ≡ (get_or nodes index d).place.first = first_is in
       omega arith
 
@@ -46,7 +31,7 @@ module _ (nodes : List SyntaxNode) (index : ℕ) (d : SyntaxNode) (are : ArePlac
 
   stop_within : (get_or nodes index d).place.number + (index + 1 - (get_or nodes index d).place.first) ≤ length nodes
   stop_within =
-      let high : stop_at (places_of nodes) index ≤ length (places_of nodes) = ends nodes (places_of nodes) index (get_or nodes index d) are inside (slice_get-get_or nodes index d inside) in
+      let high : stop_at (places_of nodes) index ≤ length (places_of nodes) = (node_within nodes (places_of nodes) index (get_or nodes index d) are (slice_get-get_or nodes index d inside)).1 in
       subst (λ (k : ℕ). k ≤ length nodes) stop_is (subst (λ (k : ℕ). stop_at (places_of nodes) index ≤ k) are.beside high)
 
 -- what stands for a node past the end
