@@ -1,11 +1,10 @@
 -- Steps of the walk over a document: items and members, one after another.
-use Rattle.std.proofs.Common.{◌≡◌, ◌≢◌, inl, inr, ℕ, ◌+◌, ◌<◌, ◌≤◌, List, [], ◌∷◌, ◌++◌, length, get_or, Bool, false, Option, Some, None, IfSome, refl, sym, ap, ◌∙◌, subst, arith}
+use Rattle.std.proofs.Common.{◌≡◌, inl, inr, ℕ, ◌+◌, ◌<◌, ◌≤◌, List, [], ◌∷◌, ◌++◌, length, get_or, Bool, false, Some, refl, sym, ap, ◌∙◌, subst, arith}
 use Rattle.std.specs.Prelude.{codes}
 use Rattle.json.specs.Json.{value as json_value}
-use Rattle.json.specs.Lex.{tokens, after_comma, after_value, fresh, may_begin}
+use Rattle.json.specs.Lex.{tokens, after_comma, after_value, fresh}
 use Rattle.json.specs.Token.{begin_object}
-use Rattle.serde_json.specs.Data.{Data, Items, Members, array, item, no_items, object, put}
-use Rattle.serde_json.specs.Find.{get_member}
+use Rattle.serde_json.specs.Data.{Data, Items, Members, array, item, no_items, object}
 use Rattle.serde_json.specs.Read.{converted, of_json, read}
 use Rattle.serde_json.specs.View.{items_of}
 use Rattle.serde_json.proofs.Views.{get_member-put, get_member-put_other}
@@ -13,13 +12,13 @@ use Rattle.json_room.proofs.LexemeLemmas.{none_left}
 use Rattle.json_room.specs.private.Lexemes.{PassesSpaces}
 use Rattle.json_room.specs.Lexemes.{EndsHere, tokens_at}
 use Rattle.json_room.specs.ValueTokens.{Reads}
-use Rattle.json_room.specs.private.ItemTokens.{ItemsLead, ReadsItems, ReadsMembers, append_items}
+use Rattle.json_room.specs.private.ItemTokens.{ItemsLead, ReadsMembers, append_items}
 use Rattle.json_room.proofs.Leads.{item_more, items_over}
 use Rattle.json_room.proofs.Tokens.{object_reads, unclosed, whole_read}
 use Rattle.json_room.specs.ValueStands.{ValueStands}
-use Rattle.json_room.specs.private.ValuesStand.{PassesTo, NamesTo, MembersRead, MembersUpTo}
+use Rattle.json_room.specs.private.ValuesStand.{NamesTo, MembersRead, MembersUpTo}
 use Rattle.json_room.proofs.Places.{ItemsUpTo, array_ends, array_to, brace_then, close_ends, comma_ends, comma_then, member_then, object_ends, object_opened, spaces_at}
-use Rattle.collection_items.specs.JudgedItems.{AreJudged, HasValue, IsArrayIn, ItemJudge, SaysNoMore}
+use Rattle.collection_items.specs.JudgedItems.{AreJudged, HasValue, IsArrayIn, ItemJudge}
 use Rattle.collection_items.specs.private.DocumentWalk.{EndsItem, EndsPair, FindsArray, JudgesArray, NamesMember}
 use Rattle.collection_items.specs.declared.document_walk.After.{After}
 use Rattle.collection_items.specs.declared.document_walk.MemberName.{MemberName}

@@ -5,7 +5,7 @@ ghost use Rattle.serde_json.specs.Data.{Data};
 ghost use Rattle.json_room.specs.Lexemes.{tokens_at};
 ghost use Rattle.json_room.specs.private.ItemTokens.{ReadsMembers};
 ghost use Rattle.json_room.specs.private.ValuesStand.{MembersRead};
-ghost use Rattle.collection_items.specs.JudgedItems.{AreJudged, HasValue, IsArrayIn, SaysNoMore};
+ghost use Rattle.collection_items.specs.JudgedItems.{AreJudged, HasValue, IsArrayIn};
 ghost use Rattle.collection_items.specs.private.DocumentWalk.{EndsItem, EndsPair, FindsArray, JudgesArray, NamesMember};
 
 use crate::item_judge::JudgesItems;

@@ -4,7 +4,7 @@ use Rattle.std.specs.Int.{bit_at}
 use Rattle.std.specs.Prelude.{bit_or, replicate}
 use Rattle.std.proofs.lemmas.Bool.{cases_lt, true≢false}
 use Rattle.std.proofs.lemmas.Nat.Bits.{bit_at-zero}
-use Rattle.serde_json.specs.Data.{Data, Members, object}
+use Rattle.serde_json.specs.Data.{Data, object}
 use Rattle.csdl_schema.specs.SchemaModel.{HasDistinctNames, PropertyModel, Slots, properties_at, slots_behind}
 use Rattle.edm_values.specs.declared.value.Value.{Value, Null}
 use Rattle.edm_entities.specs.Row.{val_of}

@@ -1,5 +1,5 @@
 -- One member more of an object that fills a record, by what its slot is.
-use Rattle.std.proofs.Common.{◌≡◌, ◌*◌, ◌%◌, ◌^◌, ℕ, ◌<◌, ◌≤◌, List, length, map, slice_get, slice_set, Bool, Option, None, Some, IfSome, Bor, bit_or, sym, subst, arith}
+use Rattle.std.proofs.Common.{◌≡◌, ◌^◌, ℕ, ◌<◌, ◌≤◌, List, length, map, slice_get, slice_set, Bool, Option, None, Some, IfSome, Bor, bit_or, sym, subst, arith}
 use Rattle.std.specs.Prelude.{option_map}
 use Rattle.serde_json.specs.Data.{Data}
 use Rattle.csdl_schema.specs.PropertyView.{property_type}
@@ -18,7 +18,7 @@ use Rattle.edm_rows.specs.declared.row_types.RowSlot.{RowSlot}
 use Rattle.edm_rows.specs.declared.row_types.RowType.{RowType}
 use Rattle.edm_rows.specs.private.Filled.{FilledRead, FilledUpTo, FillsValue, IsFilledIn}
 use Rattle.json_room.specs.private.ValuesStand.{NamesTo}
-use Rattle.edm_rows.specs.private.Members.{NamesSlot, PassesOther}
+use Rattle.edm_rows.specs.private.Members.{PassesOther}
 use Rattle.edm_rows.specs.private.RowSlots.{IsRowType, IsSlotOf, IsTaskOf}
 use Rattle.edm_rows.specs.private.SeenSlots.{HasMark}
 use Rattle.edm_rows.specs.private.Contexts.{FindsMember, FindsSlot, slots_behind_node}

@@ -5,14 +5,13 @@ use Rattle.serde_json.specs.Find.{get}
 use Rattle.serde_json.specs.Read.{converted, of_json}
 use Rattle.json.specs.Json.{value as json_value}
 use Rattle.json.specs.Token.{null as null_token}
-use Rattle.csdl_schema.specs.ExprType.{SingleType, collection, enumeration, primitive, single, structured}
+use Rattle.csdl_schema.specs.ExprType.{SingleType, enumeration, primitive, single, structured}
 use Rattle.csdl_schema.specs.SchemaModel.{HasDistinctNames, Slots, properties_at, type_name_at}
 use Rattle.edm_values.specs.declared.primitive.PrimitiveType.{PrimitiveType}
 use Rattle.edm_values.specs.declared.primitive.PrimitiveType.TheVariants as prim
 use Rattle.edm_values.specs.declared.sieve.Sieve.{Sieve}
 use Rattle.edm_values.specs.declared.value.Value.{Value, Null, Record as RecordOf, List as ListOf}
 use Rattle.edm_entities.specs.Fits.{FitsType}
-use Rattle.edm_entities.specs.HoldsEachSlot.{HoldsEachSlot}
 use Rattle.edm_entities.specs.Row.{val_of}
 use Rattle.json_room.specs.private.ItemTokens.{append_items}
 use Rattle.edm_rows.specs.private.Passed.{FitsHoweverNullable}

@@ -1,19 +1,18 @@
 -- The members of a row, of which those that are kept were put into its slots.
-use Rattle.std.proofs.Common.{◌≡◌, ◌≢◌, ◌⊎◌, inl, inr, ⊎_elim, ℕ, zero, suc, ◌+◌, ◌-◌, ◌*◌, ◌^◌, ◌<◌, ◌≤◌, List, [], ◌∷◌, length, map, slice_get, slice_set, get_or, Bool, true, false, Option, None, Some, IfSome, refl, sym, ap, ◌∙◌, subst, arith}
+use Rattle.std.proofs.Common.{◌≡◌, ◌≢◌, ◌⊎◌, inl, inr, ⊎_elim, ℕ, zero, suc, ◌+◌, ◌-◌, ◌^◌, ◌<◌, ◌≤◌, List, [], ◌∷◌, length, map, slice_get, slice_set, get_or, Bool, true, false, Option, None, Some, IfSome, refl, sym, ap, ◌∙◌, subst, arith}
 use Rattle.std.specs.Int.{bit_at}
 use Rattle.std.specs.Prelude.{MatchBool, bit_or, max, replicate}
 use Rattle.std.proofs.lemmas.Bool.{cases_lt, true≢false}
 use Rattle.std.proofs.lemmas.Nat.Bits.{bit_at-lt, bit_at-pow_other, bit_at-pow_same, bit_at-zero, bit_at_or}
-use Rattle.serde_json.specs.Data.{Data, Members, no_members, object, put}
-use Rattle.serde_json.specs.Find.{get_member}
+use Rattle.serde_json.specs.Data.{Data, Members, object, put}
 use Rattle.serde_json.proofs.Views.{get_member-put, get_member-put_other}
 use Rattle.csdl_schema.specs.SchemaModel.{HasDistinctNames, PropertyModel, Slots, slots_behind}
 use Rattle.edm_values.specs.declared.value.Value.{Value, Null}
 use Rattle.edm_rows.specs.RowReading.{Names}
 use Rattle.edm_entities.specs.Row.{ValAtType, val_of}
-use Rattle.edm_rows.specs.private.Passed.{FitSlotsBut, FitSomeSlots, FitsSeen, FitsSomeProperty, MayBeAbsent, PassedSoFar, SlotsSoFarBut, every_name}
+use Rattle.edm_rows.specs.private.Passed.{FitSlotsBut, FitsSeen, FitsSomeProperty, MayBeAbsent, SlotsSoFarBut, every_name}
 use Rattle.json_room.specs.private.ItemTokens.{ReadsMembers}
-use Rattle.edm_rows.proofs.RowLemmas.Passing.{all_passed, others_passed, passed_set, passed_start, some_values}
+use Rattle.edm_rows.proofs.RowLemmas.Passing.{all_passed, others_passed, passed_set, passed_start}
 use Rattle.std.proofs.lemmas.List.{length-set}
 use Rattle.json.specs.Lex.{fresh, after_value}
 use Rattle.edm_rows.proofs.SlotsHeld.{apart, found_in, mark_set}
@@ -23,7 +22,7 @@ use Rattle.edm_rows.specs.declared.members.After.{After}
 use Rattle.edm_rows.specs.declared.passed_value.ReadContext.{ReadContext}
 use Rattle.edm_rows.specs.declared.row_types.RowSlot.{RowSlot}
 use Rattle.json_room.specs.ValueStands.{ValueStands}
-use Rattle.json_room.specs.private.ValuesStand.{NamesTo, MembersRead, MembersUpTo}
+use Rattle.json_room.specs.private.ValuesStand.{NamesTo}
 use Rattle.edm_rows.specs.private.KeptRows.{IsRejectedIn, IsRowRejected, names_unkept_in, root_properties, root_slots}
 use Rattle.edm_rows.specs.private.KeptSoFar.{FillsAbsent, KeptRead, KeptUpTo, RejectedSoFar, SameMarks, SoFar}
 use Rattle.edm_rows.specs.private.Members.{EndsMember, PassesOther}

@@ -1,7 +1,7 @@
 -- The slots of a row that is filled again.
-use Rattle.std.proofs.Common.{◌≡◌, ◌≢◌, ◌⊎◌, inl, inr, ℕ, zero, suc, List, [], ◌∷◌, length, map, slice_set, ◌<◌, ◌≤◌, Bool, true, false, Option, None, Some, slice_get, get_or, IfSome, refl, sym, ap, ◌∙◌, subst, arith}
+use Rattle.std.proofs.Common.{◌≡◌, ◌≢◌, ◌⊎◌, inl, inr, ℕ, zero, suc, List, [], ◌∷◌, length, map, slice_set, ◌<◌, Bool, true, false, Option, None, Some, slice_get, get_or, IfSome, refl, sym, ap, ◌∙◌, subst, arith}
 use Rattle.std.specs.List.{AllByRecursion}
-use Rattle.serde_json.specs.Data.{Data, Members, null as json_null, object, put}
+use Rattle.serde_json.specs.Data.{Data, Members, null as json_null, put}
 use Rattle.serde_json.specs.Find.{get_member}
 use Rattle.serde_json.proofs.Views.{get_member-put, get_member-put_other}
 use Rattle.edm_values.specs.Val.{Val}
@@ -9,10 +9,10 @@ use Rattle.edm_values.specs.declared.value.Value.{Value, Null}
 use Rattle.csdl_schema.specs.SchemaModel.{PropertyModel, PropertyType, Slots, HasDistinctNames, declared, navigation, opaque, slots_behind}
 use Rattle.edm_rows.specs.RowReading.{Names}
 use Rattle.edm_entities.specs.Fits.{FitsNavigation, FitsProperty}
-use Rattle.edm_entities.specs.Row.{ValAtType, field_of, val_of}
-use Rattle.edm_rows.specs.private.Passed.{FitSlotsBut, FitsSeen, FitsSlotBut, FitsSoFarBut, MayBeAbsent, SlotsSoFarBut, every_name}
+use Rattle.edm_entities.specs.Row.{field_of, val_of}
+use Rattle.edm_rows.specs.private.Passed.{FitsSeen, FitsSlotBut, FitsSoFarBut, MayBeAbsent}
 use Rattle.edm_rows.specs.private.SlotsSoFar.{HoldEachSoFar}
-use Rattle.edm_entities.specs.private.Walk.{FitsSlot, FitSlots, HoldEach, HoldsInSlot}
+use Rattle.edm_entities.specs.private.Walk.{FitsSlot, HoldEach, HoldsInSlot}
 use Rattle.edm_rows.proofs.SlotsHeld.{apart, found_in}
 use Rattle.edm_entities.proofs.SlotLemmas.EachSlot.{null_in_slot}
 use Rattle.edm_rows.specs.private.KeptRows.{RowConforms}
@@ -53,15 +53,6 @@ module _ (slots : Slots) (ps : List PropertyModel) (distinct : HasDistinctNames 
       → RowConforms slots ps values → RowConforms slots ps (slice_set values n v)
   conforms_set json fits holds conforms =
       (put name json conforms.0, kept_set slots conforms.0 name json ps values n v distinct at (both (slice_get ps n) _ _ fits holds) conforms.1)
-
--- what stands in a slot holds there
-pub held_there : (Q : PropertyModel → Value → Type 0) (ps : List PropertyModel) (values : List Value) (n : ℕ) → HoldEach Q ps values → IfSome (slice_get ps n) (λ p. IfSome (slice_get values n) (Q p))
-held_there Q [] [] zero hold = tt
-held_there Q [] [] (suc n) hold = tt
-held_there Q [] (v ∷ values) n hold = absurd hold
-held_there Q (p ∷ ps) [] n hold = absurd hold
-held_there Q (p ∷ ps) (v ∷ values) zero hold = hold.0
-held_there Q (p ∷ ps) (v ∷ values) (suc n) hold = held_there Q ps values n hold.1
 
 pub held_long : (Q : PropertyModel → Value → Type 0) (ps : List PropertyModel) (values : List Value) → HoldEach Q ps values → length values ≡ length ps
 held_long Q [] [] hold = refl

@@ -1,5 +1,5 @@
 -- The end of a row, whose slots that were not seen may be absent.
-use Rattle.std.proofs.Common.{◌≡◌, ⊎_elim, ℕ, zero, suc, ◌^◌, ◌<◌, List, [], ◌∷◌, length, map, slice_get, Bool, true, false, IsTrue, Option, Some, IfSome, refl, sym, ap, ◌∙◌, subst, arith}
+use Rattle.std.proofs.Common.{◌≡◌, ⊎_elim, ℕ, zero, suc, ◌<◌, List, [], ◌∷◌, length, map, slice_get, Bool, true, false, IsTrue, Option, Some, IfSome, refl, sym, ap, ◌∙◌, subst, arith}
 use Rattle.std.specs.Int.{bit_at}
 use Rattle.csdl_schema.specs.SchemaModel.{HasDistinctNames, properties_at}
 use Rattle.edm_values.specs.declared.value.Value.{Value}

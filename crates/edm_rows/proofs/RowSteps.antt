@@ -1,9 +1,8 @@
 -- One member more of a row, by what its slot is.
-use Rattle.std.proofs.Common.{◌≡◌, ◌≢◌, ◌⊎◌, ◌+◌, ◌*◌, ◌^◌, ◌<◌, ◌≤◌, ℕ, zero, suc, List, [], ◌∷◌, inl, inr, length, get_or, map, Bool, true, false, Option, None, Some, IfSome, Result, Ok, Err, IfOk, Bor, slice_get, slice_set, bit_or, refl, sym, ap, ◌∙◌, subst, arith}
+use Rattle.std.proofs.Common.{◌≡◌, ◌≢◌, ◌⊎◌, ◌+◌, ◌^◌, ◌<◌, ◌≤◌, ℕ, zero, suc, List, [], ◌∷◌, inl, inr, length, get_or, map, Bool, true, false, Option, None, Some, IfSome, Bor, slice_get, slice_set, bit_or, refl, sym, ap, ◌∙◌, subst, arith}
 use Rattle.std.proofs.lemmas.Bool.{true≢false}
 use Rattle.std.specs.Int.{bit_at}
 use Rattle.std.specs.Prelude.{option_map}
-use Rattle.serde_json.specs.Data.{Data}
 use Rattle.csdl_schema.specs.SchemaModel.{HasDistinctNames, PropertyModel, SchemaModel, properties_at, slots_behind}
 use Rattle.json_room.specs.private.Lexemes.{PassesSpaces}
 use Rattle.edm_values.specs.declared.value.Value.{Value}
@@ -51,10 +50,6 @@ root_slot context type index slot root at =
       is_planned = subst (λ (k : ℕ). IsSlotPlan schema steps root.plan.type_id root.plan.node k there.slot_plan) (sym there.row.index_is) there.planned;
       is = subst (λ (k : ℕ). IsRowSlot schema steps plans k there.slot_plan slot) (sym there.row.index_is) there.row;
     }
-
-none_there : {X : Type 0} (xs : List X) → slice_get xs 0 ≡ None → 0 < length xs → ⊥
-none_there [] e less = omega (arith, less)
-none_there (x ∷ xs) e less = cc
 
 first_there : {X : Type 0} (xs : List X) → 0 < length xs → (x : X) × (slice_get xs 0 ≡ Some x)
 first_there [] less = absurd (omega (arith, less))

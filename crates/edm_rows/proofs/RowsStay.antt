@@ -1,5 +1,5 @@
 -- A reader of rows stays one when the marks and sieves of its first type are others.
-use Rattle.std.proofs.Common.{◌≡◌, ◌⊎◌, ℕ, zero, suc, ◌<◌, List, [], ◌∷◌, inl, inr, length, map, Bool, true, false, Option, None, Some, Vec, Global, IfSome, slice_get, slice_set, refl, sym, ap, ap₂, ◌∙◌, subst, arith}
+use Rattle.std.proofs.Common.{◌≡◌, ℕ, zero, suc, List, [], ◌∷◌, inr, length, map, Bool, true, false, Option, None, Some, Vec, Global, IfSome, slice_get, slice_set, refl, sym, ap, ap₂, ◌∙◌, subst, arith}
 use Rattle.std.specs.Prelude.{All}
 use Rattle.csdl_schema.specs.SchemaModel.{HasDistinctNames, properties_at}
 use Rattle.edm_values.specs.declared.sieve.Sieve.{Sieve}
@@ -10,7 +10,7 @@ use Rattle.edm_rows.specs.declared.known_texts.Cache.{Cache}
 use Rattle.edm_rows.specs.declared.known_texts.KnownTexts.{KnownTexts}
 use Rattle.edm_rows.specs.private.KnownTexts.{AreKnown}
 use Rattle.edm_rows.specs.HeldSchema.{schema_in}
-use Rattle.edm_rows.specs.RowsOfType.{IsSameButKept, IsSameReader, RowsOfType, names_unkept, sifted}
+use Rattle.edm_rows.specs.RowsOfType.{IsSameButKept, names_unkept, sifted}
 use Rattle.edm_rows.specs.declared.row_types.RowSlot.{RowSlot}
 use Rattle.edm_rows.specs.declared.row_types.RowType.{RowType}
 use Rattle.edm_rows.specs.declared.type_rows.TypeRows.TheInside.{Inside}
@@ -103,25 +103,6 @@ module _ (rows : Inside) (is : IsRowsOfType rows) (old new : RowType) (at : slic
 
 -- ---- no types
 
-no_slots : (types : List RowType) → length types ≡ 0 → first_slots types ≡ []
-no_slots [] none = refl
-no_slots (t ∷ ts) none = absurd (omega (arith, none))
-
-pub nothing_unkept : (rows : Inside) → length rows.types.items ≡ 0 → (name : List ℕ) → names_unkept (rows_seen rows) name → ⊥
-nothing_unkept rows none name un = nothing un.0 (subst (λ (l : List RowSlot). slice_get (map (λ s. s.is_kept) l) un.0 ≡ Some false) (no_slots rows.types.items none) un.1)
-  where
-    nothing : (k : ℕ) → slice_get (map (λ (s : RowSlot). s.is_kept) []) k ≡ Some false → ⊥
-    nothing zero at = cc
-    nothing (suc k) at = cc
-
-pub nothing_sifted : (rows : Inside) → length rows.types.items ≡ 0 → (slot : ℕ) (sieve : Sieve) → rows_seen rows ≡ record (rows_seen rows) { sieves = sifted (rows_seen rows).sieves slot sieve }
-nothing_sifted rows none slot sieve =
-    ap (λ (s : List Sieve). record (rows_seen rows) { sieves = s })
-    (ap (λ (l : List RowSlot). map (λ s. s.sieve) l) (no_slots rows.types.items none) ∙ ap (λ (l : List RowSlot). sifted (map (λ s. s.sieve) l) slot sieve) (sym (no_slots rows.types.items none)))
-
-pub same_reader : (rows : RowsOfType) → IsSameButKept rows rows
-same_reader rows = record { schema = refl; type_id = refl; expansion = refl; is_whole = refl; slots = refl; sieves = refl; is_ready = refl; value = refl }
-
 -- ---- another row
 
 module _ (rows : Inside) (is : IsRowsOfType rows) (cache : Cache) (known : KnownTexts) (row : Value) (are_known : AreKnown (schema_in rows.schema) known) where
@@ -129,8 +110,3 @@ module _ (rows : Inside) (is : IsRowsOfType rows) (cache : Cache) (known : Known
   pub reader_stays : (is_ready : Bool) → AreTypesOf (schema_in rows.schema) rows.plan rows.types.items → (is_ready ≡ true → IsRowValue (slots_at (schema_in rows.schema) rows.plan.expansion (Some 0)) (properties_at (schema_in rows.schema) rows.plan.type_id) row)
       → IsRowsOfType (record rows { cache = cache; known = known; row = row; is_ready = is_ready })
   reader_stays is_ready are of_row = record { is_plan = is.is_plan; types = is.types; known = are_known; ready = λ e. (are, of_row e) }
-
-pub same_but_row : (rows : Inside) (model : RowsOfType) (cache : Cache) (known : KnownTexts) (row : Value) (is_ready : Bool) → rows_seen rows ≡ model → IsSameReader model (rows_seen (record rows { cache = cache; known = known; row = row; is_ready = is_ready }))
-same_but_row rows model cache known row is_ready is =
-    subst (λ (m : RowsOfType). IsSameReader m (rows_seen (record rows { cache = cache; known = known; row = row; is_ready = is_ready }))) is
-    (record { schema = refl; type_id = refl; expansion = refl; is_whole = refl; kept = refl; sieves = refl })

@@ -1,7 +1,7 @@
 -- Marks of slots, which are bits of a number.
 use Rattle.std.proofs.Common.{◌≡◌, ◌⊎◌, ⊎_elim, ℕ, zero, suc, ◌+◌, ◌^◌, ◌<◌, bit_or, nat_eq, Bool, true, false, refl, sym, ap, ◌∙◌, subst, arith}
 use Rattle.std.specs.Int.{bit_at}
-use Rattle.std.proofs.lemmas.Bool.{cases_eq, cases_lt, eqb-true, true≢false}
+use Rattle.std.proofs.lemmas.Bool.{cases_eq, cases_lt, true≢false}
 use Rattle.std.proofs.lemmas.Nat.Bits.{bit_at-lt, bit_at-pow_other, bit_at-pow_same, bit_at-zero, bit_at_or}
 
 -- a slot that was not seen, or was
@@ -12,9 +12,6 @@ unmarked seen index is none = go (bit_at seen index) refl (bit_at-lt seen index)
     go zero same less apart = same
     go (suc zero) same less apart = absurd (true≢false (sym (ap (λ n. nat_eq n 1) same) ∙ apart))
     go (suc (suc n)) same less apart = absurd (omega (arith, less))
-
-pub marked_now : (seen index : ℕ) {b : Bool} → b ≡ nat_eq (bit_at seen index) 1 → b ≡ true → bit_at seen index ≡ 1
-marked_now seen index is set = eqb-true (bit_at seen index) 1 (sym is ∙ set)
 
 -- where none was seen
 pub unseen_optional : {seen : ℕ} (optional : ℕ) → seen ≡ 0 → (k : ℕ) → (bit_at seen k ≡ 1) ⊎ (bit_at optional k ≡ 1) → bit_at optional k ≡ 1

@@ -1,7 +1,7 @@
 -- Marks and sieves of a type's slots, and the names that are kept by them.
-use Rattle.std.proofs.Common.{◌≡◌, ◌≢◌, ◌⊎◌, ◌↔◌, ⊎_elim, ℕ, zero, suc, ◌+◌, ◌<◌, ◌≤◌, List, [], ◌∷◌, length, map, Bool, true, false, Option, None, Some, slice_get, slice_set, refl, sym, ap, ◌∙◌, subst, arith}
+use Rattle.std.proofs.Common.{◌≡◌, ◌≢◌, ◌⊎◌, ◌↔◌, ⊎_elim, ℕ, zero, suc, ◌+◌, ◌<◌, ◌≤◌, List, [], ◌∷◌, length, map, Bool, true, false, None, Some, slice_get, slice_set, refl, sym, ap, ◌∙◌, subst, arith}
 use Rattle.std.proofs.lemmas.Bool.{true≢false}
-use Rattle.std.specs.List.{All, AllByRecursion}
+use Rattle.std.specs.List.{AllByRecursion}
 use Rattle.csdl_schema.specs.SchemaModel.{HasDistinctNames, PropertyModel, slot_named}
 use Rattle.edm_rows.proofs.Indexes.{other_kept}
 use Rattle.edm_rows.proofs.RowLemmas.SlotNames.{no_slot_is_named, slot_is_named}
@@ -10,11 +10,6 @@ use Rattle.edm_rows.proofs.KeptMembers.{same_number}
 use Rattle.edm_rows.specs.RowsOfType.{sieve_put, sifted}
 
 -- ---- an element is put at an index
-
-pub set_past : {X : Type 0} (xs : List X) (n : ℕ) (x : X) → length xs ≤ n → slice_set xs n x ≡ xs
-set_past [] n x past = refl
-set_past (y ∷ xs) zero x past = absurd (omega (arith, past))
-set_past (y ∷ xs) (suc n) x past = ap (λ l. y ∷ l) (set_past xs n x (omega (arith, past)))
 
 pub set_mapped : {X Y : Type 0} (f : X → Y) (xs : List X) (n : ℕ) (x : X) → map f (slice_set xs n x) ≡ slice_set (map f xs) n (f x)
 set_mapped f [] n x = refl
@@ -99,7 +94,3 @@ module _ (ps : List PropertyModel) (distinct : HasDistinctNames ps) (name : List
   pub others_as_were : (slot : ℕ) → Some slot ≡ slot_named ps name → (other : List ℕ) → other ≢ name → IsUnmarked ps (slice_set marks slot true) other ↔ IsUnmarked ps marks other
   others_as_were slot found other differs =
       ((λ un. (un.0, sym (elsewhere slot found other un.0 differs un.2) ∙ un.1, un.2)), (λ un. (un.0, elsewhere slot found other un.0 differs un.2 ∙ un.1, un.2)))
-
--- where each slot is marked, no name is without a mark
-pub all_marked : (ps : List PropertyModel) (marks : List Bool) (name : List ℕ) → ((slot : ℕ) → slice_get marks slot ≢ Some false) → IsUnmarked ps marks name → ⊥
-all_marked ps marks name each un = each un.0 un.1

@@ -1,5 +1,5 @@
 -- Types of rows stay those of their plans, whatever is kept and sifted.
-use Rattle.std.proofs.Common.{◌≡◌, ◌≢◌, ◌⊎◌, ⊎_elim, ℕ, zero, suc, ◌^◌, ◌-◌, ◌<◌, ◌≤◌, List, [], ◌∷◌, length, map, Bool, true, Option, None, Some, IfSome, slice_get, slice_set, refl, sym, ap, ◌∙◌, subst, arith}
+use Rattle.std.proofs.Common.{◌≡◌, ◌⊎◌, ⊎_elim, ℕ, zero, suc, ◌-◌, ◌<◌, ◌≤◌, List, [], ◌∷◌, length, map, Bool, true, Option, None, Some, IfSome, slice_get, slice_set, refl, sym, ap, ◌∙◌, subst, arith}
 use Rattle.std.proofs.lemmas.Option.{slice_get_within}
 use Rattle.std.specs.Int.{bit_at}
 use Rattle.csdl_schema.specs.ExpansionView.{StepModel}
@@ -15,9 +15,9 @@ use Rattle.edm_rows.proofs.KeptMembers.{same_number}
 use Rattle.edm_rows.specs.declared.row_types.RowSlot.{RowSlot}
 use Rattle.edm_rows.specs.declared.row_types.RowType.{RowType}
 use Rattle.edm_row_plans.specs.declared.row_plan.RowPlan.{RowPlan}
-use Rattle.edm_rows.specs.private.HeldRows.{AreTypesOf, HasFirstType, IsSameType, first_slots}
+use Rattle.edm_rows.specs.private.HeldRows.{AreTypesOf, IsSameType, first_slots}
 use Rattle.seen_slots.specs.SlotBits.{bits_of}
-use Rattle.edm_rows.specs.private.RowSlots.{AreFew, AreRowTypes, IsRowSlot, IsRowType, IsSlotOf, LeadsTo}
+use Rattle.edm_rows.specs.private.RowSlots.{AreFew, IsRowSlot, IsRowType}
 
 -- only what is kept of a slot's values and their sieve may be another
 abbrev pub slot_as : RowSlot → Bool → Sieve → RowSlot

@@ -1,46 +1,37 @@
 -- Values of a row's own slots: what a leaf is fits the property of its slot.
-use Rattle.std.proofs.Common.{◌≡◌, ◌≢◌, ◌⊎◌, inl, inr, ℕ, ◌<◌, List, length, drop, get_or, Bool, true, false, Option, None, Some, IfSome, slice_get, refl, sym, ap, ◌∙◌, subst, ⊎_elim}
-use Rattle.json.specs.Json.{value as json_value}
-use Rattle.json.specs.Token.{null as null_token}
-use Rattle.serde_json.specs.Data.{Data, null as json_null}
-use Rattle.serde_json.specs.Read.{converted, of_json}
+use Rattle.std.proofs.Common.{◌≡◌, ◌≢◌, inl, inr, ℕ, List, Bool, false, Option, Some, IfSome, slice_get, refl, sym, ◌∙◌, subst}
+use Rattle.serde_json.specs.Data.{Data}
 use Rattle.json_room.specs.private.Lexemes.{PassesSpaces}
-use Rattle.csdl_schema.specs.ExprType.{ExprType, SingleType, enumeration, primitive, single}
+use Rattle.csdl_schema.specs.ExprType.{SingleType, primitive, single}
 use Rattle.csdl_schema.specs.PropertyView.{property_type}
-use Rattle.csdl_schema.specs.SchemaModel.{PropertyModel, PropertyType, SchemaModel, Slots, declared, properties_at, slots_behind, slots_of}
+use Rattle.csdl_schema.specs.SchemaModel.{PropertyType, Slots, declared, properties_at, slots_behind}
 use Rattle.edm_values.specs.SieveMeaning.{Rejects}
 use Rattle.edm_values.specs.Val.{FieldVal, Val, absent, present}
 use Rattle.edm_values.specs.Val as val
 use Rattle.edm_values.specs.declared.primitive.PrimitiveType.{PrimitiveType}
 use Rattle.edm_values.specs.declared.sieve.Sieve.{Sieve}
-use Rattle.edm_values.specs.declared.value.Value.{Value, Null}
+use Rattle.edm_values.specs.declared.value.Value.{Value}
 use Rattle.edm_row_plans.specs.Expanded.{slots_at}
-use Rattle.edm_entities.specs.Fits.{FitsFound, FitsProperty, FitsType}
-use Rattle.edm_entities.specs.Row.{ValAtType, val_of}
-use Rattle.edm_rows.specs.private.Passed.{FitsSeen, FitsSomeHowever, FitsHoweverNullable}
+use Rattle.edm_entities.specs.Fits.{FitsProperty, FitsType}
+use Rattle.edm_entities.specs.Row.{val_of}
+use Rattle.edm_rows.specs.private.Passed.{FitsSeen, FitsHoweverNullable}
 use Rattle.edm_entities.specs.private.Walk.{HoldsInSlot}
-use Rattle.json_room.proofs.Tokens.{null_token as null_read}
 use Rattle.edm_rows.proofs.RowLemmas.Leaves.{not_null_fits}
 use Rattle.edm_rows.proofs.RowLemmas.SlotTexts.{slot_declared}
-use Rattle.edm_entities.proofs.SlotLemmas.EachSlot.{member_holds, null_holds, primitive_holds}
-use Rattle.std.proofs.lemmas.List.{get_or_default}
-use Rattle.json.specs.Lex.{fresh, after_value, may_begin}
-use Rattle.json_room.proofs.RoomLemmas.{within_byte}
-use Rattle.json_room.specs.Lexemes.{EndsHere, StandsTo, tokens_at}
+use Rattle.edm_entities.proofs.SlotLemmas.EachSlot.{primitive_holds}
 use Rattle.edm_rows.specs.declared.kept_leaf.Taken.{Taken}
 use Rattle.edm_rows.specs.declared.kept_leaf.Taken.TheVariants.{Broken, Nothing, Put, Rejected}
 use Rattle.edm_rows.specs.declared.passed_value.ReadContext.{ReadContext}
 use Rattle.edm_rows.specs.declared.row_types.RowSlot.{RowSlot}
 use Rattle.edm_rows.specs.declared.row_types.Task.{Task}
-use Rattle.edm_rows.specs.declared.row_types.Task.TheVariants.{Any, Date, Guid, Items, Member, Moment, Number, Record, Text, Truth}
+use Rattle.edm_rows.specs.declared.row_types.Task.TheVariants.{Any, Items, Number, Record, Text, Truth}
 use Rattle.json_room.specs.ValueStands.{ValueStands}
 use Rattle.edm_rows.specs.private.Filled.{FillsValue, IsFilledIn}
 use Rattle.edm_rows.specs.private.Held.{IsLeaf, type_of}
 use Rattle.edm_rows.specs.private.KeptLeaves.{IsLeafOf, IsLeafRejected, PutsLeaf, TakesLeaf}
-use Rattle.edm_rows.specs.private.KeptRows.{ConformsInSlot, FitsSlotAs, GoesOn, IsRejectedIn, IsRootSlot, OfSlotProperty, TakesValue, root_properties, root_slots}
-use Rattle.json_room.proofs.Places.{begins_at, reads_behind, reads_to_as}
+use Rattle.edm_rows.specs.private.KeptRows.{ConformsInSlot, FitsSlotAs, GoesOn, IsRejectedIn, IsRootSlot, OfSlotProperty, TakesValue}
+use Rattle.json_room.proofs.Places.{reads_behind, reads_to_as}
 use Rattle.edm_rows.specs.private.RowSlots.{HasPrimitive, IsTaskOf, kinds_of}
-use Rattle.edm_entities.proofs.SlotLemmas.FoundWalk.{val_of-Null}
 
 module _ (context : ReadContext) (slot : RowSlot) (root : IsRootSlot context slot) where
   abbrev inner : Slots

@@ -1,5 +1,5 @@
 //! Values with parts that are kept: they are filled again where they are, with all that they hold.
-ghost use Rattle.std.specs.Prelude.{◌≡◌, ◌<◌, ◌≤◌, ◌*◌, ℕ, length, true, IfSome, IsTrue};
+ghost use Rattle.std.specs.Prelude.{◌≡◌, ◌<◌, ◌≤◌, ℕ, length, true, IfSome, IsTrue};
 ghost use Rattle.json.specs.Token.{null};
 ghost use Rattle.json_room.specs.Lexemes.{StandsTo};
 ghost use Rattle.edm_rows.specs.private.Filled.{FillsItems, FillsMembers, FillsValue};

@@ -1,5 +1,5 @@
 //! The members of a row itself, of which those that are kept become values.
-ghost use Rattle.std.specs.Prelude.{◌≡◌, ◌≢◌, ◌<◌, ◌≤◌, ◌*◌, ◌^◌, ℕ, length, bit_or, true, false, List, IsTrue};
+ghost use Rattle.std.specs.Prelude.{◌≡◌, ◌≢◌, ◌<◌, ◌≤◌, ◌^◌, ℕ, length, bit_or, true, false, List, IsTrue};
 ghost use Rattle.edm_rows.specs.private.KeptRows.{GoesOn, IsRootSlot, IsRootType, RowConforms};
 ghost use Rattle.edm_rows.specs.private.KeptRows.{TakesRow, TakesValue, root_properties, root_slots};
 ghost use Rattle.edm_rows.specs.private.KeptSoFar.{KeptRead, KeptUpTo, StepsFrom, StepsTo};

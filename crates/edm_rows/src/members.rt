@@ -1,5 +1,5 @@
 //! The members of an object, and the slots that their names have.
-ghost use Rattle.std.specs.Prelude.{◌≡◌, ◌<◌, ◌≤◌, ◌*◌, length, IfSome};
+ghost use Rattle.std.specs.Prelude.{◌≡◌, ◌<◌, ◌≤◌, length, IfSome};
 ghost use Rattle.csdl_schema.specs.SchemaModel.{properties_at};
 ghost use Rattle.edm_rows.specs.private.Members.{EndsMember, FindsName, IsSlotOfName, NextMember};
 ghost use Rattle.edm_rows.specs.private.RowSlots.{IsTypeOf};

@@ -1,13 +1,11 @@
 //! The types that a row may hold, of which each slot says in one word how its values are passed.
-ghost use Rattle.std.specs.Prelude.{◌≡◌, ◌^◌, ◌<◌, ℕ, pos, [], length, map, slice_get, None, IfSome, IsTrue, false};
+ghost use Rattle.std.specs.Prelude.{◌≡◌, ◌<◌, ℕ, [], length, slice_get, None, IfSome, IsTrue, false};
 ghost use Rattle.csdl_schema.specs.PropertyView.{property_type, target_of};
 ghost use Rattle.csdl_schema.specs.SchemaModel.{SchemaModel, Slots};
-ghost use Rattle.edm_values.specs.NumberTypes.{IsNumberOf, IsNumberType};
 ghost use Rattle.edm_row_plans.specs.Expanded.{target_if};
 ghost use Rattle.edm_row_plans.specs.Plans.{ArePlans};
 ghost use Rattle.edm_entities.specs.Row.{val_of};
 ghost use Rattle.edm_rows.specs.private.Passed.{FitsSeen};
-ghost use Rattle.edm_rows.specs.private.Held.{IsLeaf};
 ghost use Rattle.edm_rows.specs.private.RowSlots.{AreFew, AreRowTypes, IsFresh, IsFreshType, IsRowType};
 ghost use Rattle.edm_rows.specs.private.RowTypes.{AreSureDigits, HasRecord, IsKindOf, IsMadeOf, IsPrimitiveTask};
 ghost use Rattle.edm_rows.specs.private.RowTypes.{IsTaskAs, nullable_as};

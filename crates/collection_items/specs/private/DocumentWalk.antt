@@ -2,7 +2,7 @@
 use Rattle.std.specs.Prelude.{◌≡◌, ◌≢◌, ℕ, ◌<◌, ◌≤◌, List, length, get_or, Bool, true, false, None, Some, codes}
 use Rattle.json.specs.Json.{after_end_array, read_key}
 use Rattle.json.specs.Lex.{fresh, after_value, after_comma}
-use Rattle.serde_json.specs.Data.{Data, Items}
+use Rattle.serde_json.specs.Data.{Data}
 use Rattle.serde_json.specs.View.{items_of}
 use Rattle.json_room.specs.Lexemes.{EndsHere, tokens_at}
 use Rattle.json_room.specs.private.ItemTokens.{ReadsItems}

@@ -19,7 +19,6 @@ use Rattle.edm_rows.specs.declared.row_types.Task.TheVariants as task
 use Rattle.json_room.specs.ValueStands.{ValueStands}
 use Rattle.edm_rows.specs.private.Held.{IsSingle}
 use Rattle.edm_rows.specs.private.Members.{EndsMember}
-use Rattle.seen_slots.specs.SlotBits.{bits_of}
 use Rattle.edm_rows.specs.private.RowSlots.{HasPrimitive, IsTypeOf, kinds_of, name_at}
 use Rattle.json_room.proofs.Places.{any_json, any_number, both_some, token_to}
 use Rattle.edm_rows.specs.private.Contexts.{FindsSlot, PassesItems, PassesMembers, PassesValue, slots_behind_node}

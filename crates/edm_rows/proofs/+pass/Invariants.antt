@@ -1,6 +1,5 @@
 use Rattle.std.proofs.Common.{◌≡◌, ◌+◌, ◌*◌, ◌-◌, ◌<◌, length}
 use Rattle.edm_rows.proofs.ContextLemmas.{HeldUpTo, ContextUpTo}
-use Rattle.seen_slots.specs.SlotBits.{bits_of}
 use Rattle.edm_rows.proofs.+pass.Given as goal
 
 -- how deep values may nest counts first, and at one depth the order of the calls

@@ -1,10 +1,6 @@
 -- Slots of plans as slots of types: what their tasks hold to fits their properties.
-use Rattle.std.proofs.Common.{◌≡◌, ◌≢◌, inl, inr, ℕ, zero, suc, ◌<◌, ◌^◌, ◌+◌, List, [], ◌∷◌, ◌++◌, Bool, cond, true, false, Option, Some, None, IfSome, length, slice_get, refl, sym, ap, ◌∙◌, subst, ⊎_elim, arith}
-use Rattle.std.proofs.lemmas.Bool.{cases_lt, eqb-true, eqb-false}
+use Rattle.std.proofs.Common.{◌≡◌, ◌≢◌, inl, inr, ℕ, zero, suc, ◌<◌, ◌+◌, List, [], ◌∷◌, ◌++◌, Bool, cond, true, false, Option, Some, None, IfSome, length, slice_get, refl, sym, ap, ◌∙◌, subst, ⊎_elim, arith}
 use Rattle.std.proofs.lemmas.Int.{ints}
-use Rattle.std.proofs.lemmas.Nat.Bits.{bit_at-lt, bit_at-pow_other, bit_at_or}
-use Rattle.std.specs.Int.{bit_at}
-use Rattle.std.specs.Prelude.{bit_or, max, nat_eq}
 use Rattle.serde_json.specs.Data.{Data}
 use Rattle.csdl_schema.specs.ExpansionView.{StepModel}
 use Rattle.csdl_schema.specs.ExprType.{collection, enumeration, primitive, single, structured}
@@ -34,7 +30,7 @@ use Rattle.edm_rows.specs.declared.row_types.SlotKind.{SlotKind}
 use Rattle.edm_rows.specs.declared.row_types.Task.{Task}
 use Rattle.edm_rows.specs.declared.row_types.Task.TheVariants.{Text, Number, Truth, Date, Moment, Guid, Member, Record, Items, Any}
 use Rattle.edm_rows.specs.private.Held.{IsHeldTo, IsLeaf, IsSingle, Kinds, type_of}
-use Rattle.edm_rows.specs.private.RowSlots.{HasPrimitive, IsRowSlot, IsSlotHeld, IsSlotOf, IsTaskOf, LeadsTo, id_at, kinds_of, name_at}
+use Rattle.edm_rows.specs.private.RowSlots.{HasPrimitive, IsSlotHeld, IsSlotOf, IsTaskOf, LeadsTo, id_at, kinds_of, name_at}
 use Rattle.edm_rows.specs.private.RowTypes.{AreSureDigits, HasRecord, IsKindOf, IsMadeOf, IsPrimitiveTask, IsTaskAs, nullable_as}
 
 -- ---- tasks

@@ -20,8 +20,7 @@ use Rattle.edm_rows.proofs.RowLemmas.Properties.{found_by, single_fits}
 use Rattle.edm_entities.proofs.SlotLemmas.EachSlot.{IsLookedAt, held_seen, null_in_slot}
 use Rattle.edm_entities.proofs.SlotLemmas.FoundWalk.{items_as, items_null, seen_as, seen_fits, type_wanted, unwanted_fits}
 use Rattle.edm_rows.specs.declared.row_types.RowSlot.{RowSlot}
-use Rattle.edm_rows.specs.declared.row_types.Task.{Task}
-use Rattle.edm_rows.specs.declared.row_types.Task.TheVariants.{Any, Items}
+use Rattle.edm_rows.specs.declared.row_types.Task.TheVariants.{Any}
 use Rattle.edm_rows.specs.private.Held.{FilledAs, IsFilled, IsSingle, Kinds, type_of}
 use Rattle.edm_rows.specs.private.RowSlots.{IsRowSlot, kinds_of, name_at}
 use Rattle.edm_rows.specs.private.RowTypes.{HasRecord, IsKindOf, IsMadeOf, IsTaskAs, nullable_as}

@@ -1,4 +1,4 @@
-use Rattle.std.proofs.Common.{◌≡◌, ℕ, List, sym, ◌∙◌, subst, arith}
+use Rattle.std.proofs.Common.{ℕ, List, sym, ◌∙◌, subst, arith}
 use Rattle.json_room.proofs.RoomLemmas.{other_default, within_byte}
 use Rattle.json_room.proofs.Places.{members_begin}
 use Rattle.json_room.specs.private.ValuesStand.{NamesTo}

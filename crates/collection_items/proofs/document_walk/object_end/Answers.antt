@@ -1,4 +1,4 @@
-use Rattle.std.proofs.Common.{◌≡◌, ℕ, subst, arith}
+use Rattle.std.proofs.Common.{subst, arith}
 use Rattle.collection_items.specs.private.DocumentWalk.{EndsPair}
 use Rattle.collection_items.specs.declared.document_walk.After.{After}
 use Rattle.collection_items.proofs.WalkSteps.{value_last, value_stays}

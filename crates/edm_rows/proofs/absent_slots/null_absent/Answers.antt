@@ -1,8 +1,7 @@
-use Rattle.std.proofs.Common.{◌≡◌, ◌*◌, ◌%◌, ◌^◌, ◌<◌, ℕ, length, get_or, Option, Some, IfSome, slice_get, nat_eq, refl, ap, sym, subst, rules, arith}
+use Rattle.std.proofs.Common.{◌≡◌, ◌%◌, ◌^◌, ◌<◌, ℕ, length, get_or, Option, Some, IfSome, slice_get, nat_eq, refl, ap, sym, subst, arith}
 use Rattle.std.specs.Int.{bit_at}
 use Rattle.std.proofs.lemmas.Option.{slice_get-get_or, slice_get_read}
 use Rattle.edm_rows.specs.declared.row_types.RowSlot.{RowSlot}
-use Rattle.seen_slots.specs.SlotBits.{bits_of}
 use Rattle.edm_rows.proofs.UnseenNull.{NullsBelow, fills_unseen, nulls_next, nulls_none}
 use Rattle.edm_rows.proofs.absent_slots.null_absent.Goals as goal
 

@@ -1,4 +1,3 @@
-use Rattle.seen_slots.specs.SlotBits.{bits_of}
 use Rattle.edm_rows.proofs.UnseenNull.{NullsBelow}
 use Rattle.edm_rows.proofs.absent_slots.null_absent.Given as goal
 

@@ -1,4 +1,4 @@
-use Rattle.std.proofs.Common.{◌≡◌, ◌<◌, ◌≤◌, ◌^◌, ◌-◌, ℤ, pos, refl, ap, sym, ◌∙◌, subst, arith, lit<, lt_of_lt_of_le}
+use Rattle.std.proofs.Common.{◌<◌, ◌≤◌, ◌-◌, ℤ, pos, refl, ap, ◌∙◌, subst, arith, lit<, lt_of_lt_of_le}
 use native.Mathlib.Nat.{pow-le-pow_right}
 use Rattle.std.proofs.lemmas.Int.{to_z_pos}
 use Rattle.std.specs.Int.{w64}

@@ -1,21 +1,17 @@
-use Rattle.std.proofs.Common.{◌≡◌, ◌+◌, ◌-◌, ◌<◌, ◌≤◌, ℕ, length, get_or, slice_get, slice_set, take, drop, Some, IfSome, refl, sym, ap, ◌∙◌, subst, rules, arith}
+use Rattle.std.proofs.Common.{◌≡◌, ◌+◌, ◌-◌, ◌<◌, ◌≤◌, ℕ, length, get_or, slice_get, slice_set, drop, Some, IfSome, refl, sym, ap, ◌∙◌, subst, rules, arith}
 use Rattle.std.proofs.lemmas.Option.{slice_get_read}
 use Rattle.csdl_schema.specs.ExprType.{primitive}
-use Rattle.csdl_schema.specs.SchemaModel.{properties_at}
 use Rattle.std.proofs.lemmas.List.{length-set, take_at}
 use Rattle.edm_values.specs.declared.primitive.PrimitiveType.TheVariants as prim
 use Rattle.json_room.proofs.RoomLemmas.{other_default, within_byte}
 use Rattle.edm_values.specs.declared.value.Value.{List as ListOf, Record as RecordOf}
-use Rattle.edm_rows.specs.declared.kept_leaf.Taken.TheVariants.{Put}
 use Rattle.edm_rows.specs.declared.members.After.{After}
 use Rattle.edm_rows.specs.declared.row_types.RowType.{RowType}
 use Rattle.edm_rows.specs.declared.row_types.Task.TheVariants as task
 use Rattle.edm_rows.specs.private.Filled.{FilledRead, FilledUpTo, FillsItems, FillsMembers, FillsSlots, FillsValue}
 use Rattle.edm_rows.specs.private.Held.{IsSingle}
-use Rattle.edm_rows.specs.private.KeptLeaves.{PutsLeaf}
 use Rattle.edm_rows.specs.private.Members.{EndsMember}
 use Rattle.edm_rows.specs.private.RowSlots.{HasPrimitive, IsTypeOf, kinds_of}
-use Rattle.seen_slots.specs.SlotBits.{bits_of}
 use Rattle.edm_rows.specs.private.Contexts.{FindsMember, slots_behind_node}
 use Rattle.edm_rows.proofs.FilledMembers.{filled_brace, filled_comma, filled_empty, filled_none, filled_other}
 use Rattle.edm_rows.proofs.FilledSteps.{no_slot_in, slot_filled_read, slot_found_in}

@@ -1,6 +1,5 @@
 use Rattle.std.proofs.Common.{◌≡◌, ◌+◌, ◌*◌, ◌-◌, ◌<◌, ◌≤◌, length, take}
 use Rattle.edm_rows.specs.private.Filled.{FilledUpTo}
-use Rattle.seen_slots.specs.SlotBits.{bits_of}
 use Rattle.edm_rows.proofs.FilledValues.{ListUpTo}
 use Rattle.edm_rows.proofs.kept_tree.+fill.Given as goal
 

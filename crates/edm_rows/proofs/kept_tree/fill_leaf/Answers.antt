@@ -1,4 +1,4 @@
-use Rattle.std.proofs.Common.{◌≡◌, IfSome, refl, sym, ap}
+use Rattle.std.proofs.Common.{◌≡◌, refl, sym, ap}
 use Rattle.csdl_schema.specs.ExprType.{primitive}
 use Rattle.edm_values.specs.declared.primitive.PrimitiveType.TheVariants as prim
 use Rattle.edm_rows.specs.declared.row_types.Task.TheVariants as task

@@ -1,4 +1,4 @@
-use Rattle.std.proofs.Common.{true, inr, refl, arith}
+use Rattle.std.proofs.Common.{true, inr, refl}
 use Rattle.edm_rows.proofs.SeenBits.{unmarked}
 use Rattle.edm_rows.proofs.RowSteps.{further_on, none_bounds, none_in, passed_at, slot_in}
 use Rattle.edm_rows.proofs.kept_value.pass_next.Goals as goal

@@ -1,7 +1,6 @@
 use Rattle.std.proofs.Common.{true, ℕ, ◌≡◌, ◌-◌, ◌<◌, ◌≤◌, length}
 use Rattle.edm_rows.specs.private.KeptRows.{RowConforms, root_properties, root_slots}
 use Rattle.edm_rows.specs.private.KeptSoFar.{KeptRead}
-use Rattle.seen_slots.specs.SlotBits.{bits_of}
 use Rattle.edm_rows.proofs.kept_value.pass_rest.Given as goal
 
 -- one of the members before the offset is rejected, and the others were passed

@@ -1,4 +1,4 @@
-use Rattle.std.proofs.Common.{◌≡◌, ◌<◌, ℕ, true, false, inl, List, Some, length, get_or, slice_get, slice_set, sym, subst, arith}
+use Rattle.std.proofs.Common.{◌≡◌, ◌<◌, ℕ, true, false, inl, Some, length, get_or, slice_get, slice_set, sym, subst, arith}
 use Rattle.std.proofs.lemmas.Option.{slice_get-get_or}
 use Rattle.edm_rows.specs.private.KeptSoFar.{KeptRead}
 use Rattle.edm_rows.proofs.RootEnds.{rows_long}

@@ -1,7 +1,6 @@
 use Rattle.std.proofs.Common.{false, ◌≡◌, ◌-◌, ◌<◌, ◌≤◌, length}
 use Rattle.edm_rows.specs.private.KeptRows.{RowConforms, root_properties, root_slots}
 use Rattle.edm_rows.specs.private.KeptSoFar.{KeptUpTo}
-use Rattle.seen_slots.specs.SlotBits.{bits_of}
 use Rattle.edm_rows.proofs.kept_value.take_members.Given as goal
 
 -- the members before the offset were put into their slots

@@ -1,4 +1,4 @@
-use Rattle.std.proofs.Common.{◌<◌, ◌≤◌, ◌≡◌, ℕ, IfSome, Option, Some, get_or, length, slice_get, ⊎_elim, refl, sym, subst, arith}
+use Rattle.std.proofs.Common.{◌≤◌, ◌≡◌, ℕ, IfSome, Option, Some, get_or, length, slice_get, ⊎_elim, sym, subst, arith}
 use Rattle.std.proofs.lemmas.Bool.{cases_lt}
 use Rattle.std.proofs.lemmas.Option.{slice_get-get_or}
 use Rattle.edm_row_plans.specs.declared.type_plan.TypePlan.{TypePlan}

@@ -1,4 +1,4 @@
-use Rattle.std.proofs.Common.{◌≡◌, ◌↔◌, List, Bool, true, false, length, ap, sym, ◌∙◌, subst}
+use Rattle.std.proofs.Common.{◌↔◌, List, Bool, true, length, ap, sym, ◌∙◌, subst}
 use Rattle.std.proofs.lemmas.List.{length-set}
 use Rattle.csdl_schema.specs.SchemaModel.{properties_at}
 use Rattle.edm_rows.specs.private.HeldRows.{keeps_of}

@@ -1,4 +1,4 @@
-use Rattle.std.proofs.Common.{◌≡◌, ◌<◌, ℕ, length, Some, true, slice_get, refl, arith}
+use Rattle.std.proofs.Common.{◌≡◌, ◌<◌, length, Some, true, slice_get, refl, arith}
 use Rattle.std.proofs.lemmas.Option.{slice_get_read}
 use Rattle.edm_rows.proofs.SlotMarks.{set_as_was, set_mapped}
 use Rattle.edm_rows.proofs.TypesChanged.{same_type, slot_as}

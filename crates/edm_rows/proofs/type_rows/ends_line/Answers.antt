@@ -1,4 +1,4 @@
-use Rattle.std.proofs.Common.{◌≡◌, ℕ, length, sym, ◌∙◌, subst, rules}
+use Rattle.std.proofs.Common.{◌≡◌, ℕ, length, subst, rules}
 use Rattle.json_room.proofs.LexemeLemmas.{stay}
 use Rattle.json_room.specs.LexemesAt.{PassesSpaces}
 use Rattle.edm_rows.proofs.type_rows.ends_line.Goals as goal

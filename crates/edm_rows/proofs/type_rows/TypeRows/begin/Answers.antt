@@ -1,9 +1,9 @@
-use Rattle.std.proofs.Common.{◌<◌, length, Some, true, sym, subst, arith}
+use Rattle.std.proofs.Common.{◌<◌, length, Some, true, subst, arith}
 use Rattle.csdl_schema.specs.SchemaModel.{properties_at}
 use Rattle.edm_rows.specs.private.Passed.{IsRowValue}
 use Rattle.edm_row_plans.specs.Expanded.{slots_at}
 use Rattle.edm_rows.specs.HeldSchema.{schema_in}
-use Rattle.edm_rows.proofs.RowsStay.{reader_stays, same_but_row}
+use Rattle.edm_rows.proofs.RowsStay.{reader_stays}
 use Rattle.edm_rows.proofs.TypesChanged.{types_there}
 use Rattle.edm_rows.proofs.type_rows.TypeRows.begin.Goals as goal
 

@@ -1,12 +1,11 @@
-use Rattle.std.proofs.Common.{◌≡◌, ◌↔◌, ◌<◌, ℕ, List, length, Some, slice_get, refl, sym, ap, ◌∙◌, subst, arith}
+use Rattle.std.proofs.Common.{◌≡◌, ◌↔◌, ◌<◌, length, Some, slice_get, refl, sym, subst, arith}
 use Rattle.std.proofs.lemmas.Option.{slice_get_read}
 use Rattle.std.specs.Vec.{with_item}
-use Rattle.csdl_schema.specs.SchemaModel.{HasDistinctNames, SchemaModel, properties_at}
-use Rattle.edm_rows.specs.RowsOfType.{IsSameButKept, RowsOfType, names_unkept, sifted}
-use Rattle.edm_rows.specs.declared.row_types.RowType.{RowType}
+use Rattle.csdl_schema.specs.SchemaModel.{HasDistinctNames, properties_at}
+use Rattle.edm_rows.specs.RowsOfType.{IsSameButKept, RowsOfType, names_unkept}
 use Rattle.edm_rows.specs.private.HeldRows.{rows_seen}
 use Rattle.edm_rows.specs.private.KeptRows.{names_unkept_in}
-use Rattle.edm_rows.proofs.RowsStay.{before, before_again, nothing_unkept, now, now_again, old_distinct, rows_stay, same_but_kept, same_reader}
+use Rattle.edm_rows.proofs.RowsStay.{before, before_again, now, now_again, old_distinct, rows_stay, same_but_kept}
 use Rattle.edm_rows.proofs.type_rows.TypeRows.keep_named.Goals as goal
 
 pub keep_name-requires : goal.keep_name-requires

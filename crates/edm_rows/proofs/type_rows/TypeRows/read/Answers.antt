@@ -1,7 +1,7 @@
-use Rattle.std.proofs.Common.{◌≡◌, ◌+◌, ◌≤◌, ℕ, List, length, take, get_or, sym, ap, ◌∙◌, subst, arith}
+use Rattle.std.proofs.Common.{◌≡◌, ◌+◌, ◌≤◌, ℕ, List, length, take, get_or, sym, ap, ◌∙◌, subst}
 use Rattle.std.proofs.lemmas.List.{length-take-le}
 use Rattle.edm_rows.specs.RowReading.{IsLineBut}
-use Rattle.edm_rows.specs.RowsOfType.{IsLeftOut, RowsOfType, names_unkept, row_held}
+use Rattle.edm_rows.specs.RowsOfType.{IsLeftOut, names_unkept, row_held}
 use Rattle.edm_rows.proofs.type_rows.TypeRows.read.Goals as goal
 
 pub read_text-requires-clause-front : goal.read_text-requires-clause-front

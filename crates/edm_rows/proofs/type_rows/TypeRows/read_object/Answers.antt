@@ -1,4 +1,4 @@
-use Rattle.std.proofs.Common.{rules, ◌≡◌, List, Some, refl, ap, sym, ◌∙◌, subst}
+use Rattle.std.proofs.Common.{rules, List, Some, refl, sym, subst}
 use Rattle.csdl_schema.specs.SchemaModel.{SchemaModel, properties_at}
 use Rattle.edm_rows.specs.private.Passed.{IsRowValue}
 use Rattle.edm_row_plans.specs.Expanded.{slots_at}

@@ -1,10 +1,9 @@
-use Rattle.std.proofs.Common.{◌≡◌, ◌↔◌, ◌<◌, ℕ, List, length, Some, slice_get, refl, sym, ap, ◌∙◌, subst, arith}
+use Rattle.std.proofs.Common.{◌≡◌, ◌<◌, length, Some, slice_get, refl, subst, arith}
 use Rattle.std.proofs.lemmas.Option.{slice_get_read}
 use Rattle.std.specs.Vec.{with_item}
-use Rattle.edm_rows.specs.RowsOfType.{IsSameButKept, RowsOfType, names_unkept, sifted}
-use Rattle.edm_rows.specs.declared.row_types.RowType.{RowType}
+use Rattle.edm_rows.specs.RowsOfType.{RowsOfType, sifted}
 use Rattle.edm_rows.specs.private.HeldRows.{rows_seen}
-use Rattle.edm_rows.proofs.RowsStay.{nothing_sifted, rows_sifted, rows_stay}
+use Rattle.edm_rows.proofs.RowsStay.{rows_sifted, rows_stay}
 use Rattle.edm_rows.proofs.type_rows.TypeRows.sift.Goals as goal
 
 pub invariant_of-self : goal.invariant_of-self
