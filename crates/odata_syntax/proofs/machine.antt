@@ -1,3 +1,4 @@
+pub mod Operators
 pub mod Lexemes
 pub mod Run
 pub mod Reading

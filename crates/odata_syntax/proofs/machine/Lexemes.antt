@@ -1,14 +1,11 @@
 -- What a token says, and how the machine reads it.
-use Rattle.std.proofs.Common.{◌≡◌, refl, ap, subst, sym, ◌∙◌, ℕ, List, [], ◌∷◌, Bool, true, false, cond, ◌||◌, Option, Some, None, IsTrue, ◌⊎◌, inl, inr}
+use Rattle.std.proofs.Common.{◌≡◌, refl, ap, subst, ◌∙◌, ℕ, List, Bool, true, false, cond, ◌||◌, Some, IsTrue, ◌⊎◌, inl, inr}
 use Rattle.std.specs.Prelude.{codes}
 use Rattle.std.specs.List.{list_any}
 use Rattle.std.specs.Str.{str_to_ascii_lowercase}
 use Rattle.std.proofs.lemmas.Slice.Eq.{bytes_eq-Decides}
 use Rattle.std.proofs.lemmas.Option.{same_Some, cond_some}
 use Rattle.odata_syntax.specs.declared.binary_operator.BinaryOperator.{BinaryOperator}
-use Rattle.odata_syntax.specs.declared.binary_operator.LogicalOperator.{LogicalOperator}
-use Rattle.odata_syntax.specs.declared.binary_operator.ComparisonOperator.{ComparisonOperator}
-use Rattle.odata_syntax.specs.declared.binary_operator.ArithmeticOperator.{ArithmeticOperator}
 use Rattle.odata_syntax.specs.declared.node.LiteralKind.{LiteralKind}
 use Rattle.odata_syntax.specs.declared.node.Quantifier.{Quantifier}
 use Rattle.odata_text.specs.declared.token.TokenKind.{TokenKind}
@@ -18,6 +15,7 @@ use Rattle.odata_syntax.specs.declared.parser.path.Segment.{Segment}
 use Rattle.odata_text.specs.TokenModel.{TokenModel}
 use Rattle.odata_syntax.specs.Lexeme.{IsA, IsLiteral, IsName, IsOperator, IsQuantifier, SpellsDollar, SpellsLiteral, SpellsWord, operator_word, quantifier_word, reserved_words, same_word}
 use Rattle.odata_syntax.specs.private.Machine.{word_start, dollar_start, start_of_kind, word_next, next_of_kind, word_segment, dollar_segment, segment_of_kind}
+use Rattle.odata_syntax.proofs.machine.Operators.{next_word, operator_next, operators, word_next_says, word_passes}
 
 -- a text that is a word has its letters
 lower_of_word : (text word : List ℕ) → same_word text word ≡ true → str_to_ascii_lowercase text ≡ str_to_ascii_lowercase word
@@ -105,22 +103,6 @@ pub close_found : {p : TokenModel} → IsA TokenKind.Close p → start_of_kind p
 close_found {p} a = rw a.of_kind refl
 
 -- after an operand
-
-operator_next : (operator : BinaryOperator) → word_next (operator_word operator) ≡ Some (Next.Operator operator)
-unfolding word_next
-operator_next (BinaryOperator.Logical LogicalOperator.Or) = refl
-operator_next (BinaryOperator.Logical LogicalOperator.And) = refl
-operator_next (BinaryOperator.Comparison ComparisonOperator.Eq) = refl
-operator_next (BinaryOperator.Comparison ComparisonOperator.Ne) = refl
-operator_next (BinaryOperator.Comparison ComparisonOperator.Gt) = refl
-operator_next (BinaryOperator.Comparison ComparisonOperator.Ge) = refl
-operator_next (BinaryOperator.Comparison ComparisonOperator.Lt) = refl
-operator_next (BinaryOperator.Comparison ComparisonOperator.Le) = refl
-operator_next (BinaryOperator.Arithmetic ArithmeticOperator.Add) = refl
-operator_next (BinaryOperator.Arithmetic ArithmeticOperator.Sub) = refl
-operator_next (BinaryOperator.Arithmetic ArithmeticOperator.Mul) = refl
-operator_next (BinaryOperator.Arithmetic ArithmeticOperator.Div) = refl
-operator_next (BinaryOperator.Arithmetic ArithmeticOperator.Mod) = refl
 
 has_next : word_next (codes "has") ≡ Some Next.Has
 unfolding word_next
@@ -280,46 +262,6 @@ close_spelled p e = record { of_kind = start_says p.kind p.text Start.Close e }
 
 -- after an operand
 
-next_word : Next → List ℕ
-next_word (Next.Operator operator) = operator_word operator
-next_word Next.Has = codes "has"
-next_word Next.In = codes "in"
-next_word Next.Close = []
-next_word Next.Comma = []
-
--- the first whose word it is
-first_next : List Next → List ℕ → Option Next
-first_next [] text = None
-first_next (x ∷ xs) text = cond (same_word text (next_word x)) (Some x) (first_next xs text)
-
-first_or_later : (b : Bool) (x y : Next) (later : Option Next) → cond b (Some x) later ≡ Some y → ((b ≡ true) × (x ≡ y)) ⊎ (later ≡ Some y)
-first_or_later true x y later e = inl (refl, same_Some x y e)
-first_or_later false x y later e = inr e
-
-first_says : (xs : List Next) (text : List ℕ) (y : Next) → first_next xs text ≡ Some y → same_word text (next_word y) ≡ true
-unfolding first_next
-first_says [] text y e = absurd (cc)
-first_says (x ∷ xs) text y e =
-    elim (first_or_later (same_word text (next_word x)) x y (first_next xs text) e) [
-      | inl here ↦ subst (λ (k : Next). same_word text (next_word k) ≡ true) here.1 here.0
-      | inr later ↦ first_says xs text y later
-    ]
-
-operators : List Next
-operators =
-    Next.Operator (BinaryOperator.Logical LogicalOperator.Or) ∷ Next.Operator (BinaryOperator.Logical LogicalOperator.And) ∷ Next.Operator (BinaryOperator.Comparison ComparisonOperator.Eq)
-    ∷ Next.Operator (BinaryOperator.Comparison ComparisonOperator.Ne) ∷ Next.Operator (BinaryOperator.Comparison ComparisonOperator.Gt) ∷ Next.Operator (BinaryOperator.Comparison ComparisonOperator.Ge)
-    ∷ Next.Operator (BinaryOperator.Comparison ComparisonOperator.Lt) ∷ Next.Operator (BinaryOperator.Comparison ComparisonOperator.Le) ∷ Next.Operator (BinaryOperator.Arithmetic ArithmeticOperator.Add)
-    ∷ Next.Operator (BinaryOperator.Arithmetic ArithmeticOperator.Sub) ∷ Next.Operator (BinaryOperator.Arithmetic ArithmeticOperator.Mul) ∷ Next.Operator (BinaryOperator.Arithmetic ArithmeticOperator.Div)
-    ∷ Next.Operator (BinaryOperator.Arithmetic ArithmeticOperator.Mod) ∷ Next.Has ∷ Next.In ∷ []
-
-word_next-first : (text : List ℕ) → word_next text ≡ first_next operators text
-unfolding word_next first_next operators next_word
-word_next-first text = refl
-
-word_next_says : (text : List ℕ) (next : Next) → word_next text ≡ Some next → same_word text (next_word next) ≡ true
-word_next_says text next e = first_says operators text next (sym (word_next-first text) ∙ e)
-
 NextSays : TokenKind → List ℕ → Next → Type 0
 NextSays kind text (Next.Operator operator) = (kind ≡ TokenKind.Word) × (same_word text (operator_word operator) ≡ true)
 NextSays kind text Next.Has = (kind ≡ TokenKind.Word) × (same_word text (codes "has") ≡ true)
@@ -328,40 +270,22 @@ NextSays kind text Next.Close = kind ≡ TokenKind.Close
 NextSays kind text Next.Comma = kind ≡ TokenKind.Comma
 
 -- no word says what a mark says
-IsWordNext : Next → Type 0
-IsWordNext Next.Close = ⊥
-IsWordNext Next.Comma = ⊥
-IsWordNext _ = Unit {0}
+abbrev is_word_next : Next → Bool
+is_word_next Next.Close = false
+is_word_next Next.Comma = false
+is_word_next _ = true
 
-AllWords : List Next → Type 0
-AllWords [] = Unit {0}
-AllWords (x ∷ xs) = IsWordNext x × AllWords xs
-
-first_is_word : (xs : List Next) (text : List ℕ) (y : Next) → AllWords xs → first_next xs text ≡ Some y → IsWordNext y
-unfolding first_next AllWords
-first_is_word [] text y all e = absurd (cc)
-first_is_word (x ∷ xs) text y all e =
-    elim (first_or_later (same_word text (next_word x)) x y (first_next xs text) e) [
-      | inl here ↦ subst (λ (k : Next). IsWordNext k) here.1 all.0
-      | inr later ↦ first_is_word xs text y all.1 later
-    ]
-
-word_next_spelled : (text : List ℕ) (next : Next) → IsWordNext next → same_word text (next_word next) ≡ true → NextSays TokenKind.Word text next
-unfolding NextSays IsWordNext next_word
+word_next_spelled : (text : List ℕ) (next : Next) → is_word_next next ≡ true → same_word text (next_word next) ≡ true → NextSays TokenKind.Word text next
+unfolding NextSays next_word
 word_next_spelled text (Next.Operator operator) w h = (refl, h)
 word_next_spelled text Next.Has w h = (refl, h)
 word_next_spelled text Next.In w h = (refl, h)
-word_next_spelled text Next.Close w h = absurd w
-word_next_spelled text Next.Comma w h = absurd w
-
-operators_are_words : AllWords operators
-unfolding AllWords operators IsWordNext
-operators_are_words = (tt, (tt, (tt, (tt, (tt, (tt, (tt, (tt, (tt, (tt, (tt, (tt, (tt, (tt, (tt, tt)))))))))))))))
+word_next_spelled text Next.Close w h = absurd (cc)
+word_next_spelled text Next.Comma w h = absurd (cc)
 
 next_says : (kind : TokenKind) (text : List ℕ) (next : Next) → next_of_kind kind text ≡ Some next → NextSays kind text next
-unfolding NextSays
-next_says TokenKind.Word text next e =
-    word_next_spelled text next (first_is_word operators text next operators_are_words (sym (word_next-first text) ∙ e)) (word_next_says text next e)
+unfolding NextSays operators
+next_says TokenKind.Word text next e = word_next_spelled text next (word_passes is_word_next refl text next e) (word_next_says text next e)
 next_says TokenKind.Close text next e = subst (λ (k : Next). NextSays TokenKind.Close text k) (same_Some Next.Close next e) refl
 next_says TokenKind.Comma text next e = subst (λ (k : Next). NextSays TokenKind.Comma text k) (same_Some Next.Comma next e) refl
 next_says _ text next e = absurd (cc)

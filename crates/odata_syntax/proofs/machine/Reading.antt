@@ -1,10 +1,8 @@
 -- What the machine has read of an operand, and how it goes on.
-use Rattle.std.proofs.Common.{◌≡◌, ◌≢◌, refl, ap, ℕ, ◌≤◌, ◌<◌, List, [], ◌∷◌, Some, arith}
-use Rattle.std.proofs.lemmas.Bool.{le-leb, lt-leb}
+use Rattle.std.proofs.Common.{◌≡◌, ◌≢◌, refl, ap, ℕ, ◌≤◌, ◌<◌, Bool, true, List, [], ◌∷◌, Some, arith}
+use Rattle.std.specs.Prelude.{◌&&◌, leb, ltb}
+use Rattle.std.proofs.lemmas.Bool.{and_parts, le-leb, leb-true, lt-leb, ltb-true}
 use Rattle.odata_syntax.specs.declared.binary_operator.BinaryOperator.{BinaryOperator}
-use Rattle.odata_syntax.specs.declared.binary_operator.LogicalOperator.{LogicalOperator}
-use Rattle.odata_syntax.specs.declared.binary_operator.ComparisonOperator.{ComparisonOperator}
-use Rattle.odata_syntax.specs.declared.binary_operator.ArithmeticOperator.{ArithmeticOperator}
 use Rattle.odata_syntax.specs.declared.node.Quantifier.{Quantifier}
 use Rattle.odata_text.specs.declared.token.TokenKind.{TokenKind}
 use Rattle.odata_syntax.specs.declared.parser.next_operator.Next.{Next}
@@ -12,6 +10,7 @@ use Rattle.odata_text.specs.TokenModel.{TokenModel}
 use Rattle.odata_syntax.specs.Tree.{Tree, node, member, name, start_of}
 use Rattle.odata_syntax.specs.Grammar.{Level, or_level, unary_level, primary_level, operator_level}
 use Rattle.odata_syntax.specs.private.Machine.{Operation, binary_behind, has_behind, in_behind, minus_from, not_from, Waiting, operation, enclosure, Expected, closed, path, name_or_call, segment, member_or_lambda, machine_at, reduction_at, next_of_kind, operation_level, operand_level, expected_level, join_operation, IsHeld, reduce, take_next, take_behind_path, take_behind_name, take_behind_word, step_at, finish_at, finish_reduced}
+use Rattle.odata_syntax.proofs.machine.Operators.{operator_passes, operators}
 
 -- an operand has been read, and nothing of it waits
 pub data IsRead : Expected → Tree → Type 0 where
@@ -70,20 +69,17 @@ slash_step (open_word {quantifier = quantifier} {base = base} {stop = stop} {tex
 
 -- Levels.
 
+abbrev is_bound : Next → Bool
+is_bound (Next.Operator operator) = leb or_level (operator_level operator) && ltb (operator_level operator) unary_level
+is_bound _ = true
+
 pub operator_level-bounds : (operator : BinaryOperator) → (or_level ≤ operator_level operator) × (operator_level operator < unary_level)
-operator_level-bounds (BinaryOperator.Logical LogicalOperator.Or) = (omega arith, omega arith)
-operator_level-bounds (BinaryOperator.Logical LogicalOperator.And) = (omega arith, omega arith)
-operator_level-bounds (BinaryOperator.Comparison ComparisonOperator.Eq) = (omega arith, omega arith)
-operator_level-bounds (BinaryOperator.Comparison ComparisonOperator.Ne) = (omega arith, omega arith)
-operator_level-bounds (BinaryOperator.Comparison ComparisonOperator.Gt) = (omega arith, omega arith)
-operator_level-bounds (BinaryOperator.Comparison ComparisonOperator.Ge) = (omega arith, omega arith)
-operator_level-bounds (BinaryOperator.Comparison ComparisonOperator.Lt) = (omega arith, omega arith)
-operator_level-bounds (BinaryOperator.Comparison ComparisonOperator.Le) = (omega arith, omega arith)
-operator_level-bounds (BinaryOperator.Arithmetic ArithmeticOperator.Add) = (omega arith, omega arith)
-operator_level-bounds (BinaryOperator.Arithmetic ArithmeticOperator.Sub) = (omega arith, omega arith)
-operator_level-bounds (BinaryOperator.Arithmetic ArithmeticOperator.Mul) = (omega arith, omega arith)
-operator_level-bounds (BinaryOperator.Arithmetic ArithmeticOperator.Div) = (omega arith, omega arith)
-operator_level-bounds (BinaryOperator.Arithmetic ArithmeticOperator.Mod) = (omega arith, omega arith)
+unfolding operators
+operator_level-bounds operator =
+    let parts = and_parts (leb or_level (operator_level operator)) (ltb (operator_level operator) unary_level) (operator_passes is_bound refl operator) in (
+      leb-true or_level (operator_level operator) parts.0,
+      ltb-true (operator_level operator) unary_level parts.1,
+    )
 
 pub operation_level-bounds : (w : Operation) → (or_level ≤ operation_level w) × (operation_level w ≤ primary_level)
 operation_level-bounds (binary_behind operator left) = let bounds = operator_level-bounds operator in (bounds.0, omega arith)

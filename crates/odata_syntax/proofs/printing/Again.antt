@@ -3,13 +3,11 @@ use Rattle.std.proofs.Common.{◌≡◌, inl, inr, ℕ, zero, suc, ◌+◌, ◌-
 use Rattle.std.specs.List.{list_any}
 use Rattle.std.specs.Str.{str_to_ascii_lowercase}
 use Rattle.std.proofs.lemmas.Bool.{cases_Bool, ltb-false, ltb-true}
+use Rattle.std.proofs.lemmas.Slice.Eq.{bytes_eq-Decides}
 use Rattle.odata_text.specs.Printing.{Print, print_tokens}
 use Rattle.odata_text.specs.TokenModel.{TokenModel}
 use Rattle.odata_text.specs.declared.token.TokenKind.{TokenKind}
 use Rattle.odata_syntax.specs.declared.binary_operator.BinaryOperator.{BinaryOperator}
-use Rattle.odata_syntax.specs.declared.binary_operator.LogicalOperator.{LogicalOperator}
-use Rattle.odata_syntax.specs.declared.binary_operator.ComparisonOperator.{ComparisonOperator}
-use Rattle.odata_syntax.specs.declared.binary_operator.ArithmeticOperator.{ArithmeticOperator}
 use Rattle.odata_syntax.specs.declared.node.LiteralKind.{LiteralKind}
 use Rattle.odata_syntax.specs.declared.node.Quantifier.{Quantifier}
 use Rattle.odata_syntax.specs.CanonicalText.{shape_level, tree_level}
@@ -73,33 +71,22 @@ literal_like LiteralKind.Guid t u kind text is = record { of_kind = kind }
 literal_like LiteralKind.Str t u kind text is = record { of_kind = kind }
 literal_like LiteralKind.EnumLit t u kind text is = record { of_kind = kind }
 
-word_like : (word : List ℕ) (u : TokenModel) → IsTrue (same_word word word) → u.kind ≡ TokenKind.Word → u.text ≡ word → SpellsWord word u
-word_like word u same kind text = record { of_kind = kind; spelled = subst (λ (xs : List ℕ). IsTrue (same_word xs word)) (sym text) same }
+-- a word is spelled by itself
+itself : (word : List ℕ) → IsTrue (same_word word word)
+itself word = (bytes_eq-Decides (str_to_ascii_lowercase word) (str_to_ascii_lowercase word)).1 refl
 
-dollar_like : (word : List ℕ) (u : TokenModel) → IsTrue (same_word word word) → u.kind ≡ TokenKind.Dollar → u.text ≡ word → SpellsDollar word u
-dollar_like word u same kind text = record { of_kind = kind; spelled = subst (λ (xs : List ℕ). IsTrue (same_word xs word)) (sym text) same }
+word_like : (word : List ℕ) (u : TokenModel) → u.kind ≡ TokenKind.Word → u.text ≡ word → SpellsWord word u
+word_like word u kind text = record { of_kind = kind; spelled = subst (λ (xs : List ℕ). IsTrue (same_word xs word)) (sym text) (itself word) }
+
+dollar_like : (word : List ℕ) (u : TokenModel) → u.kind ≡ TokenKind.Dollar → u.text ≡ word → SpellsDollar word u
+dollar_like word u kind text = record { of_kind = kind; spelled = subst (λ (xs : List ℕ). IsTrue (same_word xs word)) (sym text) (itself word) }
 
 operator_like : (operator : BinaryOperator) (u : TokenModel) → u.kind ≡ TokenKind.Word → u.text ≡ operator_word operator → IsOperator operator u
-operator_like operator u kind text = record { word = word_like (operator_word operator) u (same operator) kind text }
-  where
-    same : (o : BinaryOperator) → IsTrue (same_word (operator_word o) (operator_word o))
-    same (BinaryOperator.Logical LogicalOperator.Or) = refl
-    same (BinaryOperator.Logical LogicalOperator.And) = refl
-    same (BinaryOperator.Comparison ComparisonOperator.Eq) = refl
-    same (BinaryOperator.Comparison ComparisonOperator.Ne) = refl
-    same (BinaryOperator.Comparison ComparisonOperator.Gt) = refl
-    same (BinaryOperator.Comparison ComparisonOperator.Ge) = refl
-    same (BinaryOperator.Comparison ComparisonOperator.Lt) = refl
-    same (BinaryOperator.Comparison ComparisonOperator.Le) = refl
-    same (BinaryOperator.Arithmetic ArithmeticOperator.Add) = refl
-    same (BinaryOperator.Arithmetic ArithmeticOperator.Sub) = refl
-    same (BinaryOperator.Arithmetic ArithmeticOperator.Mul) = refl
-    same (BinaryOperator.Arithmetic ArithmeticOperator.Div) = refl
-    same (BinaryOperator.Arithmetic ArithmeticOperator.Mod) = refl
+operator_like operator u kind text = record { word = word_like (operator_word operator) u kind text }
 
 quantifier_like : (quantifier : Quantifier) (u : TokenModel) → u.kind ≡ TokenKind.Word → u.text ≡ quantifier_word quantifier → IsQuantifier quantifier u
-quantifier_like Quantifier.Any u kind text = record { word = word_like (codes "any") u refl kind text }
-quantifier_like Quantifier.All u kind text = record { word = word_like (codes "all") u refl kind text }
+quantifier_like Quantifier.Any u kind text = record { word = word_like (codes "any") u kind text }
+quantifier_like Quantifier.All u kind text = record { word = word_like (codes "all") u kind text }
 
 name_like : (text : List ℕ) (u : TokenModel) → IsTextOfRole IsName text → u.kind ≡ TokenKind.Word → u.text ≡ text → IsName u
 name_like text u is kind same = record { of_kind = kind; free = subst (λ (xs : List ℕ). ¬ (IsTrue (list_any (same_word xs) reserved_words))) (is.text_is ∙ sym same) is.role.free }
@@ -218,7 +205,7 @@ mutual
       (ap (λ (xs : List ℕ). node 0 0 (literal kind xs)) like.text)
   read_shape start stop it readable gap behind ts like =
       read_one open_path_level (node start stop it) (node like.token.start like.token.stop it) (piece TokenKind.Dollar (codes "$it") gap) behind ts like
-      (derives_it (dollar_like (codes "$it") like.token refl like.kind like.text)) refl
+      (derives_it (dollar_like (codes "$it") like.token like.kind like.text)) refl
   read_shape start stop (name text) readable gap behind ts like =
       read_one open_path_level (node start stop (name text)) (node like.token.start like.token.stop (name like.token.text)) (piece TokenKind.Word text gap) behind ts like
       (derives_name (name_like text like.token readable like.kind like.text)) (ap (λ (xs : List ℕ). node 0 0 (name xs)) like.text)
@@ -244,7 +231,7 @@ mutual
         rest = w.rest;
         split = split_two b.own (w.token ∷ []) w.rest s.token b.split s.split w.split;
         again = tree_to b.again w.token (count b.again);
-        derived = derives_count (at_level open_path_level (tree_level base) readable.1 b.derived) (record { of_kind = s.kind }) (dollar_like (codes "$count") w.token refl w.kind w.text);
+        derived = derives_count (at_level open_path_level (tree_level base) readable.1 b.derived) (record { of_kind = s.kind }) (dollar_like (codes "$count") w.token w.kind w.text);
         same = λ i. node 0 0 (count (b.same i));
         like = w.more;
       }
@@ -266,7 +253,7 @@ mutual
         rest = o.rest;
         split = split_one o.own o.rest like.token like.split o.split;
         again = not_tree like.token o.again;
-        derived = derives_not (word_like (codes "not") like.token refl like.kind like.text) o.derived;
+        derived = derives_not (word_like (codes "not") like.token like.kind like.text) o.derived;
         same = λ i. node 0 0 (logical_not (o.same i));
         like = o.like;
       }
@@ -295,7 +282,7 @@ mutual
         rest = r.rest;
         split = split_two l.own r.own r.rest w.token l.split w.split r.split;
         again = has_tree l.again r.again;
-        derived = derives_has l.derived (word_like (codes "has") w.token refl w.kind w.text) r.derived;
+        derived = derives_has l.derived (word_like (codes "has") w.token w.kind w.text) r.derived;
         same = λ i. node 0 0 (has (l.same i) (r.same i));
         like = r.like;
       }
@@ -311,7 +298,7 @@ mutual
         rest = c.rest;
         split = split_two l.own (o.token ∷ (is.own ++ (c.token ∷ []))) c.rest w.token l.split w.split (split_one (is.own ++ (c.token ∷ [])) c.rest o.token o.split (split_last is.own c.rest c.token is.split c.split));
         again = tree_to l.again c.token (in_list l.again is.again);
-        derived = derives_in_list l.derived (word_like (codes "in") w.token refl w.kind w.text) (record { of_kind = o.kind }) is.derived (record { of_kind = c.kind });
+        derived = derives_in_list l.derived (word_like (codes "in") w.token w.kind w.text) (record { of_kind = o.kind }) is.derived (record { of_kind = c.kind });
         same = λ i. node 0 0 (in_list (l.same i) (is.same i));
         like = c.more;
       }
@@ -325,7 +312,7 @@ mutual
         rest = r.rest;
         split = split_two l.own r.own r.rest w.token l.split w.split r.split;
         again = in_path_tree l.again r.again;
-        derived = derives_in_path l.derived (word_like (codes "in") w.token refl w.kind w.text) r.derived;
+        derived = derives_in_path l.derived (word_like (codes "in") w.token w.kind w.text) r.derived;
         same = λ i. node 0 0 (in_path (l.same i) (r.same i));
         like = r.like;
       }

@@ -1,9 +1,9 @@
 -- The pieces of a readable tree may be printed one after another.
 use Rattle.std.proofs.Common.{◌≡◌, ℕ, suc, ◌<◌, ◌==◌, not, nat_lt, Bool, true, false, cond, List, [], ◌∷◌, ◌++◌, length, codes, arith, refl, subst}
-use Rattle.std.specs.Prelude.{All}
+use Rattle.std.specs.Prelude.{All, ◌&&◌, ltb}
 use Rattle.std.specs.Char.{is_ascii_alphabetic}
 use Rattle.std.specs.List.{list_all}
-use Rattle.std.proofs.lemmas.Bool.{and_parts}
+use Rattle.std.proofs.lemmas.Bool.{and_parts, ltb-true}
 use Rattle.std.proofs.lemmas.List.Elements.{All-cons, All-nil}
 use Rattle.odata_text.specs.ByteClass.{class_of}
 use Rattle.odata_text.specs.Identifier.{IsIdentifier}
@@ -13,16 +13,15 @@ use Rattle.odata_text.specs.declared.byte_class.ByteClass.TheVariants.{Space}
 use Rattle.odata_text.specs.declared.token.TokenKind.{TokenKind}
 use Rattle.odata_text.specs.declared.token.TokenKind.TheVariants.{Int, Open, Close, Comma, Slash, Colon}
 use Rattle.odata_syntax.specs.declared.binary_operator.BinaryOperator.{BinaryOperator}
-use Rattle.odata_syntax.specs.declared.binary_operator.LogicalOperator.{LogicalOperator}
-use Rattle.odata_syntax.specs.declared.binary_operator.ComparisonOperator.{ComparisonOperator}
-use Rattle.odata_syntax.specs.declared.binary_operator.ArithmeticOperator.{ArithmeticOperator}
 use Rattle.odata_syntax.specs.declared.node.LiteralKind.{LiteralKind}
 use Rattle.odata_syntax.specs.declared.node.Quantifier.{Quantifier}
+use Rattle.odata_syntax.specs.declared.parser.next_operator.Next.{Next}
 use Rattle.odata_syntax.specs.CanonicalText.{tree_level}
 use Rattle.odata_syntax.specs.Grammar.{Level, base_level, operator_level, path_level, primary_level, unary_level}
 use Rattle.odata_syntax.specs.Lexeme.{IsLiteral, operator_word, quantifier_word}
 use Rattle.odata_syntax.specs.NormalForm.{literal_token}
 use Rattle.odata_syntax.specs.Tree.{Shape, Tree, Trees, any_item, binary, call, count, has, in_list, in_path, it, lambda, literal, logical_not, member, more_trees, name, negation, no_trees, node}
+use Rattle.odata_syntax.proofs.machine.Operators.{next_word, operator_passes, operators}
 use Rattle.odata_syntax.proofs.normal_forms.NormalDerived.{kind_of_literal}
 use Rattle.odata_syntax.proofs.printing.Pieces.{close_piece, further_pieces, group_pieces, open_piece, piece, pieces, shape_pieces, slash_piece, space, trees_pieces}
 use Rattle.odata_syntax.proofs.printing.Readable.{AreReadable, IsReadable, IsReadableShape, IsTextOfRole}
@@ -37,20 +36,15 @@ letters_word law word some letters = record { part = word; more = []; identifier
 letters_dollar : LettersAreIdentifiers → (name : List ℕ) → 0 < length name → list_all is_ascii_alphabetic name ≡ true → Spells TokenKind.Dollar (36 ∷ name)
 letters_dollar law word some letters = record { front = 36 ∷ []; back = word; whole = refl; is_front = refl; is_back = law word some letters }
 
+abbrev has_letters : Next → Bool
+has_letters next = ltb 0 (length (next_word next)) && list_all is_ascii_alphabetic (next_word next)
+
 operator_spelled : LettersAreIdentifiers → (operator : BinaryOperator) → Spells TokenKind.Word (operator_word operator)
-operator_spelled law (BinaryOperator.Logical LogicalOperator.Or) = letters_word law (codes "or") (omega arith) refl
-operator_spelled law (BinaryOperator.Logical LogicalOperator.And) = letters_word law (codes "and") (omega arith) refl
-operator_spelled law (BinaryOperator.Comparison ComparisonOperator.Eq) = letters_word law (codes "eq") (omega arith) refl
-operator_spelled law (BinaryOperator.Comparison ComparisonOperator.Ne) = letters_word law (codes "ne") (omega arith) refl
-operator_spelled law (BinaryOperator.Comparison ComparisonOperator.Gt) = letters_word law (codes "gt") (omega arith) refl
-operator_spelled law (BinaryOperator.Comparison ComparisonOperator.Ge) = letters_word law (codes "ge") (omega arith) refl
-operator_spelled law (BinaryOperator.Comparison ComparisonOperator.Lt) = letters_word law (codes "lt") (omega arith) refl
-operator_spelled law (BinaryOperator.Comparison ComparisonOperator.Le) = letters_word law (codes "le") (omega arith) refl
-operator_spelled law (BinaryOperator.Arithmetic ArithmeticOperator.Add) = letters_word law (codes "add") (omega arith) refl
-operator_spelled law (BinaryOperator.Arithmetic ArithmeticOperator.Sub) = letters_word law (codes "sub") (omega arith) refl
-operator_spelled law (BinaryOperator.Arithmetic ArithmeticOperator.Mul) = letters_word law (codes "mul") (omega arith) refl
-operator_spelled law (BinaryOperator.Arithmetic ArithmeticOperator.Div) = letters_word law (codes "div") (omega arith) refl
-operator_spelled law (BinaryOperator.Arithmetic ArithmeticOperator.Mod) = letters_word law (codes "mod") (omega arith) refl
+unfolding operators next_word
+operator_spelled law operator =
+    let word = operator_word operator in
+    let parts = and_parts (ltb 0 (length word)) (list_all is_ascii_alphabetic word) (operator_passes has_letters refl operator) in
+    letters_word law word (ltb-true 0 (length word) parts.0) parts.1
 
 quantifier_spelled : LettersAreIdentifiers → (quantifier : Quantifier) → Spells TokenKind.Word (quantifier_word quantifier)
 quantifier_spelled law Quantifier.Any = letters_word law (codes "any") (omega arith) refl
