@@ -1,11 +1,11 @@
 -- Marks of slots, which are bits of words.
-use Rattle.std.proofs.Common.{◌≡◌, ◌≢◌, ◌⊎◌, ⊎_elim, inl, inr, ℕ, zero, suc, ◌+◌, ◌-◌, ◌*◌, ◌/◌, ◌%◌, ◌^◌, ◌<◌, ◌≤◌, List, [], ◌∷◌, length, get_or, replicate, slice_set, bit_and, bit_or, nat_eq, Bool, true, false, not, refl, sym, ap, ◌∙◌, subst, mod-eq_of_lt, arith}
+use Rattle.std.proofs.Common.{◌≡◌, ◌≢◌, ◌⊎◌, ◌↔◌, ⊎_elim, inl, inr, ℕ, zero, suc, ◌+◌, ◌-◌, ◌*◌, ◌/◌, ◌%◌, ◌^◌, ◌<◌, ◌≤◌, List, [], ◌∷◌, length, get_or, replicate, slice_set, bit_and, bit_or, nat_eq, not, refl, sym, ap, ◌∙◌, arith}
 use Rattle.std.specs.Int.{bit_at}
 use Rattle.std.specs.Prelude.{max}
-use Rattle.std.proofs.lemmas.Bool.{cases_eq, cases_lt, eqb-true, ne_eqb, true≢false}
+use Rattle.std.proofs.lemmas.Bool.{cases_eq, cases_lt, ne_eqb}
 use Rattle.std.proofs.lemmas.List.{get_or-set_same, get_or-set_other}
-use Rattle.std.proofs.lemmas.Nat.{pow_pos}
-use Rattle.std.proofs.lemmas.Nat.Bits.{and_pow, bit_at-lt, bit_at-pow_other, bit_at-pow_same, bit_at-zero, bit_at_cat_high, bit_at_cat_low, bit_at_or, same_from_bits}
+use Rattle.std.proofs.lemmas.Nat.{or_lt, pow_pos}
+use Rattle.std.proofs.lemmas.Nat.Bits.{and_pow, bit_at-lt, bit_at-pow_other, bit_at-pow_same, bit_at-zero, bit_at_cat_high, bit_at_cat_low, bit_at_or, same_from_bits, same_from_bits_below}
 use Rattle.seen_slots.specs.SlotBits.{bits_of}
 
 module _ (w : ℕ) (ws : List ℕ) (k : ℕ) where
@@ -104,19 +104,68 @@ all_seen words all n k inside same =
     let there : k / 64 < n = omega arith in
     bit_of words k ∙ ap (λ w. bit_at w (k % 64)) (same (k / 64) there) ∙ sym (bit_of all k)
 
--- a bit of one of two
-either : (b c : ℕ) → max b c ≡ 1 → b < 2 → (b ≡ 1) ⊎ (c ≡ 1)
-either b c both less = ⊎_elim (λ low. inr (omega (arith, both, low))) (λ high. inl (omega (arith, both, high, less))) (cases_lt b 1)
+-- a bit is the greater of two just where it is set where one of them is
+module _ (b c both : ℕ) (first : b < 2) (second : c < 2) where
+  either : max b c ≡ both → (both ≡ 1) ↔ ((b ≡ 1) ⊎ (c ≡ 1))
+  either greatest = (
+    λ set. ⊎_elim (λ low. inr (omega (arith, greatest, set, low))) (λ high. inl (omega (arith, high, first))) (cases_lt b 1),
+    ⊎_elim (λ one. omega (arith, greatest, one, second)) (λ one. omega (arith, greatest, one, first)),
+  )
+
+  greater : both < 2 → (both ≡ 1) ↔ ((b ≡ 1) ⊎ (c ≡ 1)) → max b c ≡ both
+  greater third same = ⊎_elim unset set (cases_lt both 1)
+    where
+      unset : both < 1 → max b c ≡ both
+      unset none =
+          let low : b < 1 = ⊎_elim (λ l. l) (λ high. absurd (omega (arith, none, same.1 (inl (omega (arith, high, first)))))) (cases_lt b 1) in
+          let under : c < 1 = ⊎_elim (λ l. l) (λ high. absurd (omega (arith, none, same.1 (inr (omega (arith, high, second)))))) (cases_lt c 1) in
+          omega (arith, none, low, under)
+
+      set : 1 ≤ both → max b c ≡ both
+      set some =
+          let one : both ≡ 1 = omega (arith, some, third) in
+          ⊎_elim (λ here. omega (arith, one, here, second)) (λ there. omega (arith, one, there, first)) (same.0 one)
 
 -- words that with others are the same as those of all slots
-pub either_seen : (words more all : List ℕ) (n k : ℕ) → k < 64 * n → ((j : ℕ) → j < n → bit_or (get_or words j 0) (get_or more j 0) ≡ get_or all j 0) → bit_at (bits_of all) k ≡ 1
-    → (bit_at (bits_of words) k ≡ 1) ⊎ (bit_at (bits_of more) k ≡ 1)
-either_seen words more all n k inside same set =
+pub either_seen : (words more all : List ℕ) (n k : ℕ) → k < 64 * n → ((j : ℕ) → j < n → bit_or (get_or words j 0) (get_or more j 0) ≡ get_or all j 0)
+    → (bit_at (bits_of all) k ≡ 1) ↔ ((bit_at (bits_of words) k ≡ 1) ⊎ (bit_at (bits_of more) k ≡ 1))
+either_seen words more all n k inside same =
     let there : k / 64 < n = omega arith in
-    let both : max (bit_at (bits_of words) k) (bit_at (bits_of more) k) ≡ 1 =
+    let both : max (bit_at (bits_of words) k) (bit_at (bits_of more) k) ≡ bit_at (bits_of all) k =
     ap (λ b. max b (bit_at (bits_of more) k)) (bit_of words k) ∙ ap (max (bit_at (get_or words (k / 64) 0) (k % 64))) (bit_of more k)
-    ∙ sym (bit_at_or (get_or words (k / 64) 0) (get_or more (k / 64) 0) (k % 64)) ∙ ap (λ w. bit_at w (k % 64)) (same (k / 64) there) ∙ sym (bit_of all k) ∙ set in
-    either (bit_at (bits_of words) k) (bit_at (bits_of more) k) both (bit_at-lt (bits_of words) k)
+    ∙ sym (bit_at_or (get_or words (k / 64) 0) (get_or more (k / 64) 0) (k % 64)) ∙ ap (λ w. bit_at w (k % 64)) (same (k / 64) there) ∙ sym (bit_of all k) in
+    either (bit_at (bits_of words) k) (bit_at (bits_of more) k) (bit_at (bits_of all) k) (bit_at-lt (bits_of words) k) (bit_at-lt (bits_of more) k) both
+
+-- ---- words by their bits
+
+bit_in_word : (words : List ℕ) (word i : ℕ) → i < 64 → bit_at (bits_of words) (64 * word + i) ≡ bit_at (get_or words word 0) i
+bit_in_word words word i less =
+    let here : (64 * word + i) / 64 ≡ word = omega (arith, less) in
+    let rest : (64 * word + i) % 64 ≡ i = omega (arith, less) in
+    bit_of words (64 * word + i) ∙ ap (λ w. bit_at (get_or words w 0) ((64 * word + i) % 64)) here ∙ ap (bit_at (get_or words word 0)) rest
+
+pub word_by_bits : (words all : List ℕ) (n word : ℕ) → word < n → get_or words word 0 < 2 ^ 64 → get_or all word 0 < 2 ^ 64
+    → ((k : ℕ) → k < 64 * n → bit_at (bits_of words) k ≡ bit_at (bits_of all) k) → get_or words word 0 ≡ get_or all word 0
+word_by_bits words all n word within fits room same =
+    same_from_bits_below 64 (get_or words word 0) (get_or all word 0) fits room
+    (λ i less. sym (bit_in_word words word i less) ∙ same (64 * word + i) (omega (arith, within, less)) ∙ bit_in_word all word i less)
+
+-- a word of the greater of the bits of two
+or_by_bits : (a b c : ℕ) → a < 2 ^ 64 → b < 2 ^ 64 → c < 2 ^ 64 → ((i : ℕ) → i < 64 → max (bit_at a i) (bit_at b i) ≡ bit_at c i) → bit_or a b ≡ c
+or_by_bits a b c first second third same =
+    same_from_bits_below 64 (bit_or a b) c (or_lt 64 a b first second) third (λ i less. bit_at_or a b i ∙ same i less)
+
+pub either_by_bits : (words more all : List ℕ) (n word : ℕ) → word < n → get_or words word 0 < 2 ^ 64 → get_or more word 0 < 2 ^ 64 → get_or all word 0 < 2 ^ 64
+    → ((k : ℕ) → k < 64 * n → (bit_at (bits_of all) k ≡ 1) ↔ ((bit_at (bits_of words) k ≡ 1) ⊎ (bit_at (bits_of more) k ≡ 1)))
+    → bit_or (get_or words word 0) (get_or more word 0) ≡ get_or all word 0
+either_by_bits words more all n word within first second third same = or_by_bits (get_or words word 0) (get_or more word 0) (get_or all word 0) first second third each
+  where
+    each : (i : ℕ) → i < 64 → max (bit_at (get_or words word 0) i) (bit_at (get_or more word 0) i) ≡ bit_at (get_or all word 0) i
+    each i less =
+        let k = 64 * word + i in
+        ap (λ b. max b (bit_at (get_or more word 0) i)) (sym (bit_in_word words word i less)) ∙ ap (max (bit_at (bits_of words) k)) (sym (bit_in_word more word i less))
+        ∙ greater (bit_at (bits_of words) k) (bit_at (bits_of more) k) (bit_at (bits_of all) k) (bit_at-lt (bits_of words) k) (bit_at-lt (bits_of more) k) (bit_at-lt (bits_of all) k) (same k (omega (arith, within, less)))
+        ∙ bit_in_word all word i less
 
 -- ---- one word alone
 
@@ -131,8 +180,19 @@ word_tested word index bit less is =
     let low : index % 64 ≡ index = omega arith in
     ap (λ b. not (nat_eq (bit_and word b) 0)) (is ∙ ap (λ i. 2 ^ i) low) ∙ tested word index (bit_at word index) refl (bit_at-lt word index)
 
-pub either_in_word : (word : ℕ) (more all : List ℕ) (k : ℕ) → k < 64 → bit_or word (get_or more 0 0) ≡ get_or all 0 0 → bit_at (bits_of all) k ≡ 1 → (bit_at word k ≡ 1) ⊎ (bit_at (bits_of more) k ≡ 1)
-either_in_word word more all k less same set =
-    let both : max (bit_at word k) (bit_at (bits_of more) k) ≡ 1 =
-    ap (max (bit_at word k)) (first_bit more k less) ∙ sym (bit_at_or word (get_or more 0 0) k) ∙ ap (λ w. bit_at w k) same ∙ sym (first_bit all k less) ∙ set in
-    either (bit_at word k) (bit_at (bits_of more) k) both (bit_at-lt word k)
+module _ (word : ℕ) (more all : List ℕ) where
+  pub either_in_word : (k : ℕ) → k < 64 → bit_or word (get_or more 0 0) ≡ get_or all 0 0 → (bit_at (bits_of all) k ≡ 1) ↔ ((bit_at word k ≡ 1) ⊎ (bit_at (bits_of more) k ≡ 1))
+  either_in_word k less same =
+      let both : max (bit_at word k) (bit_at (bits_of more) k) ≡ bit_at (bits_of all) k =
+      ap (max (bit_at word k)) (first_bit more k less) ∙ sym (bit_at_or word (get_or more 0 0) k) ∙ ap (λ w. bit_at w k) same ∙ sym (first_bit all k less) in
+      either (bit_at word k) (bit_at (bits_of more) k) (bit_at (bits_of all) k) (bit_at-lt word k) (bit_at-lt (bits_of more) k) both
+
+  pub first_by_bits : word < 2 ^ 64 → get_or all 0 0 < 2 ^ 64 → ((k : ℕ) → k < 64 → bit_at word k ≡ bit_at (bits_of all) k) → word ≡ get_or all 0 0
+  first_by_bits fits room same = same_from_bits_below 64 word (get_or all 0 0) fits room (λ k less. same k less ∙ first_bit all k less)
+
+  pub either_first : word < 2 ^ 64 → get_or more 0 0 < 2 ^ 64 → get_or all 0 0 < 2 ^ 64 → ((k : ℕ) → k < 64 → (bit_at (bits_of all) k ≡ 1) ↔ ((bit_at word k ≡ 1) ⊎ (bit_at (bits_of more) k ≡ 1)))
+      → bit_or word (get_or more 0 0) ≡ get_or all 0 0
+  either_first first second third same =
+      or_by_bits word (get_or more 0 0) (get_or all 0 0) first second third
+      (λ k less. ap (max (bit_at word k)) (sym (first_bit more k less))
+      ∙ greater (bit_at word k) (bit_at (bits_of more) k) (bit_at (bits_of all) k) (bit_at-lt word k) (bit_at-lt (bits_of more) k) (bit_at-lt (bits_of all) k) (same k less) ∙ first_bit all k less)

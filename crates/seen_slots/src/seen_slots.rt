@@ -1,4 +1,4 @@
-ghost use Rattle.std.specs.Prelude.{◌≡◌, ◌⊎◌, ◌==◌, ◌<◌, ◌%◌, ◌^◌, ℕ, bit_or, IsTrue};
+ghost use Rattle.std.specs.Prelude.{◌≡◌, ◌⊎◌, ◌↔◌, ◌==◌, ◌<◌, ◌%◌, ◌^◌, ℕ, bit_or, IsTrue};
 ghost use Rattle.std.specs.Int.{bit_at};
 ghost use Rattle.seen_slots.specs.SlotBits.{bits_of};
 
@@ -30,10 +30,10 @@ pub trait SeenSlots: Copy {
 
     /// Whether just these slots were seen.
     fn are_all(&self, all: &ManySlots) -> bool
-        ensures { IsTrue result → (k : ℕ) → k < most → bit_at (bits self.now) k ≡ bit_at (bits_of all.now.words) k };
+        ensures { IsTrue result ↔ ((k : ℕ) → k < most → bit_at (bits self.now) k ≡ bit_at (bits_of all.now.words) k) };
 
     /// Whether each of these slots was seen or is one of the others, and no more were.
     fn are_all_but(&self, optional: &ManySlots, all: &ManySlots) -> bool
-        ensures { IsTrue result → (k : ℕ) → k < most → bit_at (bits_of all.now.words) k ≡ 1
-            → (bit_at (bits self.now) k ≡ 1) ⊎ (bit_at (bits_of optional.now.words) k ≡ 1) };
+        ensures { IsTrue result ↔ ((k : ℕ) → k < most → (bit_at (bits_of all.now.words) k ≡ 1)
+            ↔ ((bit_at (bits self.now) k ≡ 1) ⊎ (bit_at (bits_of optional.now.words) k ≡ 1))) };
 }

@@ -238,7 +238,7 @@ members::pass_members-returns-then-are_all_but-clause-passed g t c =
     let d = context.line in
     let brace = c.past_blanks-place.result in
     let here = sym c.byte.ensures.here ∙ c.if-byte-eq125.true in
-    context_empty context c.requires.plan.0 c.args.plan.now c.args.cache.now.depth c.args.from brace c.requires.plan.1 (λ k inside. unseen_optional _ c.none-seen.ensures k (c.are_all_but.ensures c.if-are_all_but.true k (omega (arith, inside, c.requires.room)) (c.requires.plan.1.all k inside))) c.past_blanks-place.ensures (within_byte d brace 125 here (λ e. omega arith))
+    context_empty context c.requires.plan.0 c.args.plan.now c.args.cache.now.depth c.args.from brace c.requires.plan.1 (λ k inside. unseen_optional _ c.none-seen.ensures k ((c.are_all_but.ensures.0 c.if-are_all_but.true k (omega (arith, inside, c.requires.room))).0 (c.requires.plan.1.all k inside))) c.past_blanks-place.ensures (within_byte d brace 125 here (λ e. omega arith))
     (other_default d brace 125 here (λ e. omega arith))
 
 pub members::pass_members-members-init : goal.members::pass_members-members-init
@@ -297,7 +297,7 @@ members::pass_members-returns-then-are_all_but-2-clause-passed g t c =
           (joined_other context type depth from l.place found.place (g.M.SeenSlots.bits l.seen) l.order l.cache.depth c.next_member.new.cache.depth (subst Finds w.in-None.is c.in-Some.ensures.found) l.invariant.2 l.invariant.0 back l.invariant.1)
     ] in
     let ends : EndsMember context.line m.place (After.Brace c.in-Some-Brace.next) = subst (EndsMember context.line m.place) c.in-Some-Brace.field-0-is c.in-Some-Brace.ensures in
-    context_over context c.requires.plan.0 type depth from m.place c.in-Some-Brace.next (g.M.SeenSlots.bits m.seen) c.requires.plan.1 (λ k inside. c.are_all_but-in-Some-Brace.ensures c.if-are_all_but-2.true k (omega (arith, inside, c.requires.room)) (c.requires.plan.1.all k inside)) (omega (arith, joined.read.members.bounds.0, ends.0)) joined.read ends
+    context_over context c.requires.plan.0 type depth from m.place c.in-Some-Brace.next (g.M.SeenSlots.bits m.seen) c.requires.plan.1 (λ k inside. (c.are_all_but-in-Some-Brace.ensures.0 c.if-are_all_but-2.true k (omega (arith, inside, c.requires.room))).0 (c.requires.plan.1.all k inside)) (omega (arith, joined.read.members.bounds.0, ends.0)) joined.read ends
 
 pub members::pass_members-mark-requires : goal.members::pass_members-mark-requires
 members::pass_members-mark-requires g t c =

@@ -38,4 +38,4 @@ returns-clause-fills g c _ =
     let rows = c.args.plan.now.slots.items in
     let seen = g.M.SeenSlots.bits c.args.seen in
     let end : c.loop-slot.slot ≡ length rows = omega arith in
-    fills_unseen c.args.plan.now seen c.args.values.now c.loop-slot.values (λ k inside. c.are_all_but.ensures c.if-not-are_all_but.false k (omega (arith, inside, c.requires.marks.room)) (c.requires.marks.all k inside)) (subst (λ n. NullsBelow seen n c.args.values.now c.loop-slot.values) end c.loop-slot.invariant)
+    fills_unseen c.args.plan.now seen c.args.values.now c.loop-slot.values (λ k inside. (c.are_all_but.ensures.0 c.if-not-are_all_but.false k (omega (arith, inside, c.requires.marks.room))).0 (c.requires.marks.all k inside)) (subst (λ n. NullsBelow seen n c.args.values.now c.loop-slot.values) end c.loop-slot.invariant)

@@ -1,4 +1,4 @@
-use Rattle.std.proofs.Common.{◌≡◌, ◌/◌, ◌<◌, ℕ, length, get_or, slice_set, bit_or, ap, ◌∙◌, rules, arith}
+use Rattle.std.proofs.Common.{◌≡◌, ◌/◌, ℕ, length, get_or, slice_set, bit_or, ap, ◌∙◌, rules, arith}
 use Rattle.seen_slots.specs.SlotBits.{bits_of}
 use Rattle.seen_slots.proofs.SlotBits.{bits_marked}
 use Rattle.seen_slots.proofs.many_slots.ManySlotsSeenSlots.mark.Goals as goal
