@@ -135,7 +135,8 @@ class Postgres:
 
 class Sqlite:
     def __init__(self, path=":memory:"):
-        self.connection = sqlite3.connect(path, isolation_level=None)
+        # one thread at a time asks it
+        self.connection = sqlite3.connect(path, isolation_level=None, check_same_thread=False)
 
     def rows(self, text, parameters=()):
         try:
