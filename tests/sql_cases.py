@@ -302,3 +302,17 @@ def indexed_row(number):
     row |= {"Changed": f"2020-01-01T00:{number // 60 % 60:02}:{number % 60:02}Z", "Color": "Red", "Tags": [], "Parts": []}
     row |= {"Code": f"{number:08}-0000-0000-0000-{number:012}", "Released": "2020-02-29" if number == 5 else "2021-01-01"}
     return json.dumps(row).encode()
+
+
+def nested(kind, count):
+    """A filter on the shop's products of so many levels."""
+    if kind == "sub":
+        return "Stock gt " + "(" * count + "Rating" + " sub Stock)" * count
+    if kind == "not":
+        return "not " * count + "Active"
+    if kind == "minus":
+        return "-" * count + "Stock gt 0"
+    if kind == "any":
+        paths = ["Parts", *(f"p{level}/Sub" for level in range(count - 1))]
+        return "".join(f"{path}/any(p{level}:" for level, path in enumerate(paths)) + "true" + ")" * count
+    return " and ".join(["1 div Rating eq 1"] * count)

@@ -65,8 +65,25 @@ class Libpq:
         self.calls.PQfinish(self.connection)
 
 
-class Postgres:
-    """A server of its own, whose default collation is that of a language."""
+class Connection:
+    """A connection to the server in a folder."""
+
+    def __init__(self, room):
+        self.client = Libpq(f"host={room} user=filters dbname=postgres")
+
+    def rows(self, text, parameters=()):
+        return self.client.rows(text, parameters)
+
+    def joined(self, expression, source, parameters=()):
+        ((found,),) = self.rows(f"SELECT string_agg(({expression})::text, ',') FROM {source}", parameters)
+        return found or ""
+
+    def close(self):
+        self.client.close()
+
+
+class Postgres(Connection):
+    """A server of its own, whose default collation is that of a language, and a first connection to it."""
 
     def __init__(self):
         self.room = tempfile.mkdtemp(prefix="sql")
@@ -104,28 +121,22 @@ class Postgres:
         last = time.monotonic() + 60
         while True:
             try:
-                return Libpq(f"host={self.room} user=filters dbname=postgres")
+                return Connection(self.room).client
             except Refused:
                 if time.monotonic() > last or self.server.poll() is not None:
                     raise
                 time.sleep(0.1)
 
-    def rows(self, text, parameters=()):
-        return self.client.rows(text, parameters)
-
-    def joined(self, expression, source, parameters=()):
-        ((found,),) = self.rows(f"SELECT string_agg(({expression})::text, ',') FROM {source}", parameters)
-        return found or ""
-
-    def processor(self):
-        """The seconds of the processors that the connection's server has taken."""
-        with open(f"/proc/{self.client.calls.PQbackendPID(self.client.connection)}/stat", encoding="ascii") as file:
-            user, system = file.read().rpartition(")")[2].split()[11:13]
-        return (int(user) + int(system)) / os.sysconf("SC_CLK_TCK")
+    def half(self, number):
+        """A connection for a process of its own, to tables of its own."""
+        half = Connection(self.room)
+        half.rows(f"CREATE SCHEMA IF NOT EXISTS half{number}")
+        half.rows(f"SET search_path = half{number}")
+        return half
 
     def close(self):
         if self.client:
-            self.client.close()
+            super().close()
         if self.server:
             # at once, whoever is connected
             self.server.send_signal(signal.SIGINT)
@@ -135,8 +146,11 @@ class Postgres:
 
 class Sqlite:
     def __init__(self, path=":memory:"):
-        # one thread at a time asks it
-        self.connection = sqlite3.connect(path, isolation_level=None, check_same_thread=False)
+        self.connection = sqlite3.connect(path, isolation_level=None)
+
+    def half(self, _number):
+        """Another, for a process of its own."""
+        return Sqlite()
 
     def rows(self, text, parameters=()):
         try:
