@@ -5,10 +5,13 @@ is the filter's if its decoded name is `filter` or `$filter`, in any case. Fault
 piece in this order: a `%` without two hexadecimal digits in the name, a name that decodes to no UTF-8; of the filter's
 piece the same two of its value, and that it is the second; that the piece is disguised.
 
-A piece is disguised if some reader could take a part of it for a filter: one that splits at `;` too, and in names at
-`&`, that decodes names twice, and that drops white space, control characters, `+` and `?` at the ends of a name. Of the
-filter's own piece that is asked of what follows its first `;`. The options of what is expanded or selected are the
-standard's: a `;` in parentheses of `$expand` or `$select` splits nothing, if all that are open close.
+A piece is disguised if some reader could take a part of it for a filter: one that splits at `;` too, and in system
+query options at `?`; that reads names as they stand, decoded once or twice, and takes `%u0024` for an escape too; that
+takes a decoded name apart at `;`, `&`, `?`, NULs and byte order marks, or passes over the last two; and that takes off
+white space, control characters, `+` and `]` at the ends of a name, and `[` in front of it. Of the filter's own piece
+that is asked of what follows its first `;`. The options of what is expanded or selected are the standard's: a `;` in
+parentheses of `$expand` or `$select` splits nothing, if all that are open close, each that stands in no other follows
+no `=`, `,`, `/` or `;`, and none of those begins with a `;`.
 """
 import random
 import re
@@ -18,6 +21,10 @@ __all__ = ["Found", "drawn_queries", "found"]
 NAMES = (b"filter", b"$filter")
 # options whose parentheses have options of their own
 NESTING = (b"expand", b"$expand", b"select", b"$select")
+# system query options that are named without their `$` too
+WORDS = b"apply compute count expand format orderby schemaversion search select skip top".split()
+# a NUL and a byte order mark
+SILENT = "\0\ufeff"
 
 
 class Found:
@@ -45,11 +52,12 @@ def text_fault(text, start, number):
 
 def is_dropped(character):
     # isspace takes four separators that are control characters too, and no other that is not white space
-    return character.isspace() or unicodedata.category(character) == "Cc" or character in "+?"
+    blank = character.isspace() or unicodedata.category(character) == "Cc"
+    return character not in SILENT and (blank or character in "+]")
 
 
 def trimmed(name):
-    while name and is_dropped(name[0]):
+    while name and (is_dropped(name[0]) or name[0] == "["):
         name = name[1:]
     while name and is_dropped(name[-1]):
         name = name[:-1]
@@ -59,29 +67,49 @@ def trimmed(name):
 def shows_filter(name):
     """Whether a lenient reader sees a filter's name in a decoded name; what is no UTF-8 shows none."""
     try:
-        parts = re.split("[;&]", name.decode())
+        text = name.decode()
     except UnicodeDecodeError:
         return False
-    return any(trimmed(part.split("=")[0]).encode().lower() in NAMES for part in parts)
+    texts = (text, "".join(character for character in text if character not in SILENT))
+    words = [word for text in texts for word in re.split(f"[;&?{SILENT}]", text)]
+    return any(trimmed(word.split("=")[0]).encode().lower() in NAMES for word in words)
+
+
+def hides_filter(part):
+    name = part.split(b"=")[0]
+    names = [name, decoded(name), decoded(decoded(name))]
+    for _ in range(2):
+        name = decoded(re.sub(rb"%u00(?=[0-9A-Fa-f]{2})", b"%", name))
+        names.append(name)
+    return any(map(shows_filter, names))
 
 
 def without_parentheses(text):
-    """A text without what stands in parentheses, if all of these close."""
+    """A text without parentheses and what stands in them, if all of these close, follow names and begin with no `;`."""
     opened, dropped = [], set()
     for place, byte in enumerate(text):
+        before = text[place - 1 : place]
         if byte == ord("("):
+            if not opened and before in (b"=", b",", b"/", b";"):
+                return text
             opened.append(place)
         elif byte == ord(")") and opened:
             dropped.update(range(opened.pop() + 1, place))
-    return text if opened else bytes(byte for place, byte in enumerate(text) if place not in dropped)
+        elif byte == ord(";") and before == b"(" and len(opened) == 1:
+            return text
+    if opened:
+        return text
+    return bytes(byte for place, byte in enumerate(text) if place not in dropped and byte not in b"()")
 
 
 def is_disguised(piece, is_filter):
-    if decoded(piece.split(b"=")[0]).lower() in NESTING:
+    name = decoded(piece.split(b"=")[0]).lower()
+    if name in NESTING:
         piece = without_parentheses(piece)
-    parts = piece.split(b";")[1:] if is_filter else piece.split(b";")
-    names = [decoded(part.split(b"=")[0]) for part in parts]
-    return any(shows_filter(name) or shows_filter(decoded(name)) for name in names)
+    parts = piece.split(b";")[1:] if is_filter else [piece, *piece.split(b";")]
+    if not is_filter and (name[:1] in (b"$", b"@") or name in WORDS):
+        parts += [*piece.split(b"?"), *re.split(b"[;?]", piece)]
+    return any(map(hides_filter, parts))
 
 
 def found(query):
@@ -108,7 +136,8 @@ PIECES = ["&", "&", ";", "=", "=", "x", "x=1", "$top=5", "$filter", "filter", "F
 PIECES += ["ter", "%24", "%2524", "%252524", "%66ilter", "%2566ilter", "%20", "+", "?", "%2B", "%3F", "%09", "%00"]
 PIECES += ["%0A", "%7F", "%C2%A0", "%C2%85", "%25C2%25A0", "%E3%80%80", "%E2%80%8B", "%C3%A9", "%C3", "%FF", "%25FF"]
 PIECES += ["%", "%2", "%zz", "%3B", "%26", "%3D", "%253B", "Active", "amp;", "Name%20eq%20'a'", "'", "\u00e9", " "]
-PIECES += ["#", "-", ".", "@", "ID%20eq%201", "$expand=", "Expand", "(", "(", ")", ")"]
+PIECES += ["#", "-", ".", "@", "ID%20eq%201", "$expand=", "Expand", "(", "(", ")", ")", "[", "]", "%5B", "%5d"]
+PIECES += ["%EF%BB%BF", "%u0024", "%u00", "/P?", "$top=1?", ",", "/"]
 
 
 def drawn_queries(count, seed=1):

@@ -1,6 +1,6 @@
 -- The outcome of a text, from that of a handle and its bytes, or of a query.
 use Rattle.std.proofs.Common.{◌≡◌, ℕ, List, Result, Ok, Err, MatchResult, Some, sym, subst}
-use Rattle.odata_text.specs.Query.{IsFilterOf}
+use Rattle.odata_queries.specs.Query.{IsFilterOf}
 use Rattle.handle_calls.specs.FilterCalls.{IsFilterIn, IsFilterMade, IsFilterOfQuery, IsNoFilter, IsNoQueryFilter, IsNotMade}
 use Rattle.handle_calls.specs.declared.call_fault.Fault.{Fault}
 use Rattle.handle_calls.specs.declared.handle.Handle.{Handle}

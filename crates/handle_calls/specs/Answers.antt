@@ -1,7 +1,7 @@
 -- What is reported about a fault: the status and the numbers, as the header of the library has them.
 use Rattle.std.specs.Prelude.{ℕ, List, [], length, Option, None, Some}
-use Rattle.odata_text.specs.declared.find_fault.FindFault.{FindFault}
-use Rattle.odata_text.specs.declared.query_fault.QueryFault.{QueryFault}
+use Rattle.odata_queries.specs.declared.find_fault.FindFault.{FindFault}
+use Rattle.odata_queries.specs.declared.query_fault.QueryFault.{QueryFault}
 use Rattle.odata_text.specs.declared.span.Span.{Span}
 use Rattle.odata_signatures.specs.declared.refusal.Refusal.{Refusal}
 use Rattle.edm_entities.specs.declared.row_fault.RowFault.{RowFault}

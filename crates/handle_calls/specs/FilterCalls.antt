@@ -1,7 +1,7 @@
 -- The result of checking a filter, and what a filter is asked for.
 use Rattle.std.specs.Prelude.{◌≡◌, ◌≢◌, ℕ, IsUtf8, List, None, Some}
-use Rattle.odata_text.specs.declared.query_fault.QueryFault.{QueryFault}
-use Rattle.odata_text.specs.Query.{IsFilterOf, IsQueryFault}
+use Rattle.odata_queries.specs.declared.query_fault.QueryFault.{QueryFault}
+use Rattle.odata_queries.specs.Query.{IsFilterOf, IsQueryFault}
 use Rattle.csdl_schema.specs.SchemaModel.{slots_of, type_name_at}
 use Rattle.odata_signatures.specs.HasTyping.{HasNoTyping, HasTyping, IsRefusal, UnlessMemory}
 use Rattle.odata_signatures.specs.declared.refusal.Refusal.{Refusal}

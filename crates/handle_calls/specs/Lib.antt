@@ -9,6 +9,8 @@ pub use Rattle.odata_checked_filter.specs.FlatTree
 pub use Rattle.odata_checked_filter.specs.LambdaDepth
 pub use Rattle.odata_checked_filter.specs.PropertyPaths
 pub use Rattle.odata_filter.specs.FaultNumbers
+pub use Rattle.odata_queries.specs.Find
+pub use Rattle.odata_queries.specs.Query
 pub use Rattle.row_judges.specs.FilterRows
 pub use Rattle.row_judges.specs.RowAnswer
 pub use Rattle.row_judges.specs.RowCosts
@@ -18,8 +20,6 @@ pub use Rattle.odata_sql.specs.Conditions
 pub use Rattle.odata_sql.specs.JsonText
 pub use Rattle.odata_sql.specs.Translation
 pub use Rattle.odata_syntax.specs.CanonicalText
-pub use Rattle.odata_text.specs.Find
-pub use Rattle.odata_text.specs.Query
 pub use Rattle.sql_tables.specs.Columns
 pub use Rattle.sql_tables.specs.Forms
 pub use Rattle.sql_tables.specs.Lines

@@ -1,7 +1,7 @@
 -- The result of checking the filter of a whole query.
 use Rattle.std.specs.Prelude.{◌≡◌, ◌≢◌, ◌⊎◌, ℕ, List, length, Option, None, Some, Result, Ok, Err, MatchResult}
-use Rattle.odata_text.specs.Find.{FoundModel, IsFindFault, IsFoundIn}
-use Rattle.odata_text.specs.declared.find_fault.FindFault.{FindFault}
+use Rattle.odata_queries.specs.Find.{FoundModel, IsFindFault, IsFoundIn}
+use Rattle.odata_queries.specs.declared.find_fault.FindFault.{FindFault}
 use Rattle.handle_calls.specs.FilterCalls.{IsFilterIn, IsNoFilter}
 use Rattle.handle_calls.specs.Kinds.{IsType}
 use Rattle.handle_calls.specs.Outcomes.{IsReported, Makes}

@@ -9,7 +9,7 @@ use csdl_schema::SchemaFault;
 use edm_entities::RowFault;
 use odata_eval::EvalFault;
 use odata_filter::{Numbered, refusal_span, row_fault_path};
-use odata_text::{FindFault, QueryFault};
+use odata_queries::{FindFault, QueryFault};
 use odata_typing::Refusal;
 
 /// Why a call did nothing. The faults of the crates below are none when out of memory, which is `Memory` here.

@@ -10,7 +10,7 @@ use crate::call_fault::Fault;
 use crate::handle::{FilterHandle, Handle, TypeHandle};
 use edm_rows::{HeldSchema, RowLayout};
 use odata_filter::row_layout_of;
-use odata_text::{QueryFault, filter_of_query};
+use odata_queries::{QueryFault, filter_of_query};
 use odata_typing::{Checked, StoredFilter, check_to_store};
 use std::alloc::Global;
 use std::sync::Arc;

@@ -1,13 +1,13 @@
 //! The filter of a whole query.
 ghost use Rattle.std.specs.Prelude.{◌≡◌, MatchResult};
-ghost use Rattle.odata_text.specs.Find.{found_model};
+ghost use Rattle.odata_queries.specs.Find.{found_model};
 ghost use Rattle.handle_calls.specs.UrlCalls.{IsFoundFor, IsNotFound, ReportsFound};
 
 use crate::answer::Answer;
 use crate::call_fault::Fault;
 use crate::caller_buffer::write_text;
 use crate::handle::Handle;
-use odata_text::{FindFault, FoundFilter, find_filter};
+use odata_queries::{FindFault, FoundFilter, find_filter};
 use std::alloc::Global;
 
 /// The filter in a whole query, its text and where it stands, for a handle that is a type.

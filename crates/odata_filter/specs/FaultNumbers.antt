@@ -2,7 +2,7 @@
 use Rattle.std.specs.Prelude.{ℕ, zero, suc, List, [], ◌∷◌, Option, Some, None, codes, slice_get, option_and_then}
 use Rattle.std.specs.Option.{option_map}
 use Rattle.csdl_declarations.specs.declared.schema_fault.SchemaFault.{SchemaFault}
-use Rattle.odata_text.specs.declared.query_fault.QueryFault.{QueryFault}
+use Rattle.odata_queries.specs.declared.query_fault.QueryFault.{QueryFault}
 use Rattle.odata_text.specs.declared.text_fault.TextFault.{TextFault}
 use Rattle.odata_text.specs.declared.span.Span.{Span}
 use Rattle.odata_syntax.specs.declared.syntax_fault.SyntaxFault.{SyntaxFault}

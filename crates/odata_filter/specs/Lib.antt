@@ -29,13 +29,13 @@ pub use Rattle.odata_filter_operations.specs.Outcome
 pub use Rattle.odata_meaning.specs.Costs
 pub use Rattle.odata_meaning.specs.Means
 pub use Rattle.odata_meaning.specs.MeansOn
+pub use Rattle.odata_queries.specs.Query
 pub use Rattle.odata_signatures.specs.HasTyping
 pub use Rattle.odata_syntax.specs.CanonicalText
 pub use Rattle.odata_syntax.specs.Parse
 pub use Rattle.odata_syntax.specs.TextTree
 pub use Rattle.odata_syntax.specs.Tree
 pub use Rattle.odata_syntax.specs.TreeView
-pub use Rattle.odata_text.specs.Query
 pub use Rattle.odata_text.specs.TokenModel
 pub use Rattle.odata_text.specs.Tokens
 pub use Rattle.row_judges.specs.FilterRows

@@ -4,8 +4,8 @@ use Rattle.std.specs.Io.KnownBytes.{Keeps}
 use Rattle.edm_values.specs.Civil.{IsYmd, IsHms}
 use Rattle.edm_values.specs.MomentLiteral.{MomentValue}
 use Rattle.edm_values.specs.MomentParts.{MomentParts}
-use Rattle.odata_text.specs.Query.{IsFilterOf, IsQueryFault}
-use Rattle.odata_text.specs.declared.query_fault.QueryFault.{QueryFault}
+use Rattle.odata_queries.specs.Query.{IsFilterOf, IsQueryFault}
+use Rattle.odata_queries.specs.declared.query_fault.QueryFault.{QueryFault}
 use Rattle.odata_filter.specs.Planned.{IsPlanned}
 use Rattle.line_filter.specs.Growth.{Writes, WritesFront}
 use Rattle.line_filter.specs.Kept.{LineClass, Items, Filters, StopsAt, StopsWithin, IsFaultless}

@@ -8,8 +8,9 @@ ghost use Rattle.odata_filter.specs.FaultNumbers.{type_number};
 use csdl_schema::SchemaFault;
 use edm_entities::RowFault;
 use odata_eval::EvalFault;
+use odata_queries::QueryFault;
 use odata_syntax::SyntaxFault;
-use odata_text::{QueryFault, Span, TextFault};
+use odata_text::{Span, TextFault};
 use odata_typing::{Refusal, TypeFaultCode};
 
 /// The kinds of things that have numbered faults.

@@ -2,6 +2,5 @@ mod Common
 mod canonical
 pub mod characters
 mod machine
-mod queries
 mod readings
 mod spellings

@@ -3,17 +3,12 @@ pub use Rattle.edm_values.specs.GuidLiteral
 pub use Rattle.edm_values.specs.IntLiteral
 pub use Rattle.edm_values.specs.MomentLiteral
 pub use Rattle.edm_values.specs.StringLiteral
-pub use Rattle.percent_encoding.specs.Percent
 pub use Rattle.unicode.specs.GeneralCategory
 pub mod ByteClass
-pub mod Disguise
-pub mod Find
 pub mod Identifier
 pub mod LeftOut
 pub mod LiteralSpelling
 pub mod Printing
-pub mod Query
-pub mod QueryExamples
 pub mod Scanning
 pub mod Sequence
 pub mod Spelling

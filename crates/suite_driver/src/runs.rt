@@ -3,7 +3,7 @@ use crate::spelled_numbers::shown_by_number;
 use crate::trouble::{Trouble, owned};
 use odata_filter::command_line::{Plan, PlanFault};
 use odata_filter::{FaultKind, Numbered, plan, run};
-use odata_text::{QueryFault, filter_of_query};
+use odata_queries::{QueryFault, filter_of_query};
 use std::alloc::Global;
 
 /// The refusal of a query string.

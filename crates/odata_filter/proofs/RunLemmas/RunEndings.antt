@@ -7,9 +7,9 @@ use Rattle.std.specs.Io.KnownBytes.{Appends, Keeps}
 use Rattle.std.proofs.KnownBytes.{Keeps-trans, Appends-kept}
 use Rattle.edm_values.specs.MomentLiteral.{MomentValue}
 use Rattle.edm_values.specs.MomentParts.{MomentParts}
-use Rattle.odata_text.specs.Query.{IsQueryFault}
-use Rattle.odata_text.specs.declared.query_fault.QueryFault.{QueryFault}
-use Rattle.odata_text.specs.declared.query_fault.QueryFault.TheVariants as query
+use Rattle.odata_queries.specs.Query.{IsQueryFault}
+use Rattle.odata_queries.specs.declared.query_fault.QueryFault.{QueryFault}
+use Rattle.odata_queries.specs.declared.query_fault.QueryFault.TheVariants as query
 use Rattle.line_filter.specs.Growth.{Writes, WritesFront}
 use Rattle.odata_filter.specs.Planned.{IsMomentText, IsPlanned}
 use Rattle.command_plan.specs.declared.command_line.Verb.{Verb}

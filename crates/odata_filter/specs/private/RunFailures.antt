@@ -4,8 +4,8 @@ use Rattle.std.specs.Io.KnownBytes.{Keeps}
 use Rattle.edm_values.specs.MomentLiteral.{MomentValue}
 use Rattle.edm_values.specs.MomentParts.{MomentParts}
 use Rattle.line_filter.specs.Growth.{Writes, WritesFront}
-use Rattle.odata_text.specs.declared.query_fault.QueryFault.{QueryFault}
-use Rattle.odata_text.specs.declared.query_fault.QueryFault.TheVariants as query
+use Rattle.odata_queries.specs.declared.query_fault.QueryFault.{QueryFault}
+use Rattle.odata_queries.specs.declared.query_fault.QueryFault.TheVariants as query
 use Rattle.command_plan.specs.declared.command_line.Verb.{Verb}
 use Rattle.command_plan.specs.declared.command_line.Verb.TheVariants.{Filter as ByRows}
 use Rattle.odata_checked_filter.specs.Calls.{UsesNow}

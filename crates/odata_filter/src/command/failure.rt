@@ -4,7 +4,7 @@ ghost use Rattle.odata_filter.specs.Run.{status_number};
 
 use crate::run_fault::RunFault;
 use csdl_schema::SchemaFault;
-use odata_text::QueryFault;
+use odata_queries::QueryFault;
 use odata_typing::Refusal;
 use thiserror::Error;
 

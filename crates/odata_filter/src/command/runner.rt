@@ -18,7 +18,7 @@ use command_plan::command_line::{Plan, Verb};
 use csdl_schema::{Schema, TypeId};
 use edm_values::{Moment, read_moment};
 use line_filter::{Unlogged, write_out};
-use odata_text::filter_of_query;
+use odata_queries::filter_of_query;
 use odata_typing::{Checked, Refusal, check};
 use std::alloc::{AllocError, Global};
 use std::io::{Read, Write};

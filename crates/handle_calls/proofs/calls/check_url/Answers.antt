@@ -1,5 +1,5 @@
 use Rattle.std.proofs.Common.{Ok, Err, MatchResult, refl, subst}
-use Rattle.odata_text.specs.Find.{found_model}
+use Rattle.odata_queries.specs.Find.{found_model}
 use Rattle.handle_calls.specs.FilterCalls.{IsFilterIn, IsNoFilter}
 use Rattle.handle_calls.proofs.calls.check_url.Goals as goal
 

@@ -1,5 +1,5 @@
 use Rattle.std.proofs.Common.{subst}
-use Rattle.odata_text.specs.Query.{IsQueryFault}
+use Rattle.odata_queries.specs.Query.{IsQueryFault}
 use Rattle.odata_filter.proofs.RunLemmas.RunEndings.{query_lacking}
 use Rattle.odata_filter.proofs.command.runner.checked_plan.Goals as goal
 

@@ -1,5 +1,0 @@
-use Rattle.odata_text.proofs.queries.WorkedQueries.{escaped-filter, paged-fault}
-use Rattle.odata_text.proofs.query_laws.queries_by_example.Goals as goal
-
-pub returns : goal.returns
-returns c = record { escaped = escaped-filter; paged = paged-fault }
