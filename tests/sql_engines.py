@@ -1,4 +1,5 @@
 """The two engines that tests/sql asks: PostgreSQL on a socket of its own in a folder of its own, and SQLite in memory.
+How PostgreSQL plans and evaluates is as it comes; who asks much turns `jit` off in the session, as docs/SQL.md says.
 
 Each answers `rows(text, parameters)`, a list of tuples of numbers, texts and None, and `joined(expression, source,
 parameters)`, the values of an expression on the rows of a table that are numbers, in the order of the rows and between
@@ -101,7 +102,7 @@ class Postgres(Connection):
         words = ["-A", "trust", "-U", "filters", "-E", "UTF8", "--locale=C.UTF-8", "--no-sync"]
         words += ["--locale-provider=icu", "--icu-locale=en-US"]
         self.call("initdb", "-D", f"{self.room}/data", *words)
-        options = {"fsync": "off", "full_page_writes": "off", "max_connections": "20", "jit": "off"}
+        options = {"fsync": "off", "full_page_writes": "off", "max_connections": "20"}
         options |= {
             "listen_addresses": "", "unix_socket_directories": self.room, "log_min_messages": "panic",
             "client_min_messages": "error",
@@ -131,7 +132,7 @@ class Postgres(Connection):
         """A connection for a process of its own, to tables of its own."""
         half = Connection(self.room)
         half.rows(f"CREATE SCHEMA IF NOT EXISTS half{number}")
-        half.rows(f"SET search_path = half{number}")
+        half.rows(f"SET search_path = half{number}; SET jit = off")
         return half
 
     def close(self):

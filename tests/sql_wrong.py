@@ -13,6 +13,13 @@ def changed(pattern, new):
     return lambda text: re.sub(pattern, new, text)
 
 
+def of_bounds(least, most, other_least, other_most):
+    """Takes other bounds of a type for its own, in either dialect."""
+    return changed(
+        rf"BETWEEN (\(?){least}(\)::numeric)? AND {most}", lambda it: f"BETWEEN {it[1]}{other_least}{it[2] or ''} AND {other_most}",
+    )
+
+
 def of_other_members(text):
     """Looks the names of `K.Size` up among the members of `K.Marks`."""
     text = text.replace(
@@ -41,10 +48,8 @@ WRONG = {
     "the fault of any member, not of the first": (None, changed(r"\(m(\d+)\.o - 1\) \* 8|m(\d+)\.key \* 8", "0")),
     "members from the last": (None, changed(r"(\(m\d+\.o - 1\)|m\d+\.key) \* 8", r"(1000 - \1) * 8")),
     "JSON null as SQL has it": ("postgresql", changed(r"NULLIF\(([^(),]*), 'null'::jsonb\)", r"(\1)")),
-    "Int16 in 32 bits": (None, replaced("BETWEEN -32768 AND 32767", "BETWEEN -2147483648 AND 2147483647")),
-    "Int32 in 64 bits": (
-        None, replaced("BETWEEN -2147483648 AND 2147483647", "BETWEEN -9223372036854775808 AND 9223372036854775807"),
-    ),
+    "Int16 in 32 bits": (None, of_bounds("-32768", "32767", "-2147483648", "2147483647")),
+    "Int32 in 64 bits": (None, of_bounds("-2147483648", "2147483647", "-9223372036854775808", "9223372036854775807")),
     "Int64 by its bounds": (
         "sqlite", changed(r"WHEN 'integer' THEN 1 WHEN 'real' THEN 0", r"WHEN 'integer' THEN 1 WHEN 'real' THEN 1"),
     ),
@@ -57,7 +62,7 @@ WRONG = {
     "Overflow for DivideByZero": (
         None,
         lambda text: text.replace(
-            "WHEN 'Infinity' THEN 4", "WHEN 'Infinity' THEN 3",
+            "WHEN 'Infinity'::numeric THEN 4", "WHEN 'Infinity'::numeric THEN 3",
         ).replace("WHEN x'04' THEN 4", "WHEN x'04' THEN 3"),
     ),
     "moments by their local time": (
@@ -83,12 +88,12 @@ WRONG = {
     ),
     "an enumeration by the members of another": (None, of_other_members),
     "the fault of a text as that of a number": (
-        "postgresql", replaced(" WHEN 'O' THEN 3 WHEN 'D' THEN 4 END", " WHEN 'NaN' THEN 3 WHEN 'Infinity' THEN 4 END"),
+        "postgresql", lambda text: text.replace("WHEN 'O'::text THEN", "WHEN 'NaN' THEN").replace("WHEN 'D'::text THEN", "WHEN 'Infinity' THEN"),
     ),
     "a text that is no fault with the letter before it": (
-        "postgresql", changed(r"substr\((NULLIF\(NULLIF\(\w+, 'O'\), 'D'\)), 2\)", r"\1"),
+        "postgresql", changed(r"substr\((NULLIF\(NULLIF\(\w+, 'O'::text\), 'D'::text\)), 2\)", r"\1"),
     ),
-    "a text without a letter before it": ("postgresql", replaced("('v' || ", "(")),
+    "a text without a letter before it": ("postgresql", replaced("('v'::text || ", "(")),
     "null of another type": ("postgresql", replaced("NULL::bigint", "NULL::text")),
     "Guids by the case of their digits": (
         "sqlite", changed(r"""lower\((m\d+\.value|json_extract\([^()]*"Ids?"'\))\)""", r"\1"),

@@ -1,5 +1,5 @@
-/* The deepest texts of so many bytes on threads of so much stack: checked, and then written, explained, counted, judged
- * and freed. `stacks KIB BYTES`. */
+/* The deepest texts of so many bytes on threads of so much stack: checked, and then written, explained, counted, judged,
+ * put into SQL and freed. `stacks KIB BYTES`. */
 #include <pthread.h>
 
 #include "checks.h"
@@ -12,10 +12,12 @@
     "{\"$Version\":\"4.01\",\"N\":{\"C\":{\"$Kind\":\"ComplexType\",\"C\":{\"$Type\":\"N.C\",\"$Nullable\":true}},"    \
     "\"Item\":{\"$Kind\":\"EntityType\",\"ID\":{\"$Type\":\"Edm.Int32\"},\"Name\":{},"                                 \
     "\"Active\":{\"$Type\":\"Edm.Boolean\"},\"Tags\":{\"$Collection\":true},"                                          \
+    "\"Flags\":{\"$Type\":\"Edm.Boolean\",\"$Collection\":true},"                                                       \
+    "\"N\":{\"$Type\":\"Edm.Int32\",\"$Nullable\":true},\"On\":{\"$Type\":\"Edm.Boolean\",\"$Nullable\":true},"            \
     "\"C\":{\"$Type\":\"N.C\",\"$Nullable\":true},"                                                                    \
     "\"To\":{\"$Kind\":\"NavigationProperty\",\"$Type\":\"N.Item\",\"$Nullable\":true}}}}"
 #define ITEM_ROW                                                                                                       \
-    "{\"ID\":1,\"Name\":\"a\",\"Active\":true,\"Tags\":[\"a\"],\"C\":null,\"To\":null,\"more\":"
+    "{\"ID\":1,\"Name\":\"a\",\"Active\":true,\"Tags\":[\"a\"],\"Flags\":[],\"N\":1,\"On\":null,\"C\":null,\"To\":null,\"more\":"
 
 /* a text as it grows, with what the limits count of it */
 struct text {
@@ -32,6 +34,9 @@ static struct text text;
 static odfilter_handle *filter;
 static odfilter_buffer room;
 static uint32_t wanted;
+/* how the filter nests for SQL, where that is known, and how many had conditions for PostgreSQL */
+static enum { AT_ANY_DEPTH, AT_THE_LIMIT, PAST_THE_LIMIT } nesting;
+static size_t translated;
 
 static void on_thread(void *(*work)(void *))
 {
@@ -54,6 +59,21 @@ static void *check_it(void *nothing)
     return nothing;
 }
 
+/* its conditions for each engine and storage, or that it nests too deeply for one: SQLite parses some ten levels */
+static void into_sql(void)
+{
+    odfilter_bytes how = {NULL, 0};
+    odfilter_answer answer;
+    uint32_t form, status;
+    for (form = ODFILTER_POSTGRESQL_COLUMNS; form <= ODFILTER_SQLITE_JSON; form++) {
+        status = odfilter_sql(filter, form, how, room, &answer);
+        check("its conditions", status == ODFILTER_OK || status == ODFILTER_TOO_DEEP);
+        if (form <= ODFILTER_POSTGRESQL_JSON && nesting != AT_ANY_DEPTH)
+            check("a known depth", status == (nesting == AT_THE_LIMIT ? ODFILTER_OK : ODFILTER_TOO_DEEP));
+        translated += form <= ODFILTER_POSTGRESQL_JSON && status == ODFILTER_OK;
+    }
+}
+
 static void *use_it(void *nothing)
 {
     odfilter_handle *judge = new_judge(), *own = new_judge_of(filter);
@@ -64,6 +84,7 @@ static void *use_it(void *nothing)
     check("its nodes", odfilter_node_count(filter, &answer) == ODFILTER_OK && answer.number > 0);
     check("its lambda operators", odfilter_lambda_depth(filter, &answer) == ODFILTER_OK && answer.number <= OPEN);
     check("its paths", odfilter_property_paths(filter, room, &answer) == ODFILTER_OK);
+    into_sql();
     check("a row is judged", judged(filter, judge, row, &verdict) == ODFILTER_OK);
     check("the first by the filter's judge", judged_next(own, row, &verdict) == ODFILTER_OK);
     check("the next by it", judged_next(own, row, &verdict) == ODFILTER_OK);
@@ -129,6 +150,11 @@ static const struct chain chains[] = {
     {"Active", "", " eq Active", "", "", 2, TOKENS, ODFILTER_OK},
     {"false", "", " or false", "", "", 2, TOKENS, ODFILTER_OK},
     {"ID", "", " add 1", "", " eq 1", 2, TOKENS, ODFILTER_OK},
+    {"ID", "- ", "", "", " eq 1", 1, TOKENS, ODFILTER_OK},
+    {"N", "", " div N", "", " eq 1", 2, TOKENS, ODFILTER_OK},
+    {"On", "", " ne On", "", "", 2, TOKENS, ODFILTER_OK},
+    {"N div N eq 1", "", " eq On", "", "", 2, TOKENS, ODFILTER_OK},
+    {"indexof(Name,'a')", "", " add indexof(Name,'a')", "", " eq 1", 7, TOKENS, ODFILTER_OK},
     {"1 eq 1", "", " or 1 eq ID", "", "", 4, TOKENS, ODFILTER_OK},
     {"true", "contains(Name,'a') and ", "", "", "", 7, TOKENS, ODFILTER_OK},
     {"C", "", "/C", "", " eq null", 2, 2000, ODFILTER_OK},
@@ -176,13 +202,58 @@ static void nested(void)
     is_answered("calls", ODFILTER_OK);
 }
 
-/* lambda operators in one another, each after this */
-static void lambdas(const char *after)
+/* so many levels around a start, and so many around these: 100 levels in all, the most for which there is SQL */
+struct levels {
+    const char *start, *before, *after;
+    size_t times;
+    const char *last;
+    size_t last_times;
+};
+
+static const struct levels levels[] = {
+    {"ID", "- ", "", 99, " eq 1", 1},
+    {"N", "", " add N", 99, " eq 1", 1},
+    {"N", "", " div N", 99, " eq 1", 1},
+    {"- N", "(N sub N mul ", ")", 49, " eq 1", 1},
+    {"N", "(1 add N mul - ", ")", 33, " eq 1", 1},
+    {"indexof(Name,Name)", "", " add indexof(Name,Name)", 98, " eq 1", 1},
+    {"On", "", " ne On", 100, "", 0},
+    {"On", "", " ge On", 100, "", 0},
+    {"N div N eq 1", "", " eq On", 98, "", 0},
+    {"On", "(N div N eq 1) in (On,", ")", 64, " eq On", 34},
+    {"On", "(", " in Flags)", 64, " ne On", 36},
+    {"On", "On in (true,false or true and true eq ", ")", 25, "", 0},
+};
+
+static void put_all(const char *before, const char *after, size_t times)
+{
+    while (times--)
+        check("a level", put_around(before, after, 12, strchr(before, '(') != NULL));
+}
+
+static void at_the_limit(void)
+{
+    size_t number;
+    for (number = 0; number < sizeof levels / sizeof *levels; number++) {
+        begin(levels[number].start);
+        put_all(levels[number].before, levels[number].after, levels[number].times);
+        put_all("", levels[number].last, levels[number].last_times);
+        nesting = AT_THE_LIMIT;
+        is_answered("100 levels", ODFILTER_OK);
+        put_all("", " eq On", 1);
+        nesting = PAST_THE_LIMIT;
+        is_answered("101 levels", ODFILTER_OK);
+        nesting = AT_ANY_DEPTH;
+    }
+}
+
+/* so many lambda operators in one another, each after this */
+static void lambdas(const char *after, size_t times)
 {
     size_t number;
     char before[64];
     begin("true");
-    for (number = 0; number < OPEN; number++) {
+    for (number = 0; number < times; number++) {
         snprintf(before, sizeof before, "%sTags/any(v%d:", after, (int)number);
         put_around(before, ")", 14, 1);
     }
@@ -209,13 +280,15 @@ static const struct around wraps[] = {
     {"", " in (true,false)", 6, 0}, {"", " and (C/C/C eq null)", 10, 0}, {"(", ")", 2, 1},
     {"not (", ")", 3, 1},         {"true eq (", ")", 4, 1},          {"true in (", ",false)", 6, 1},
     {"false or Active eq (", ")", 6, 1},
+    {"", " ne On", 2, 0},            {"(N div N eq 1) or ", "", 8, 0},  {"(", ") in Flags", 4, 1},
+    {"(N div N eq 1) in (On,", ")", 12, 1},
 };
 
-/* more around a truth value, drawn: some of it a chain */
-static void draw_around(void)
+/* more around a truth value, drawn: some of it a chain of so many at most */
+static void draw_around(size_t chained)
 {
     const struct around *wrap = &wraps[draw(sizeof wraps / sizeof *wraps)];
-    size_t times = 1 + draw(draw(4) ? 4 : 400);
+    size_t times = 1 + draw(draw(4) ? 4 : chained);
     char lambda[32];
     if (draw(12)) {
         put_often(wrap->before, wrap->after, wrap->tokens, wrap->open, wrap->open ? 1 : times);
@@ -225,15 +298,15 @@ static void draw_around(void)
     put_around(lambda, ")", 8, 1);
 }
 
-static void mixtures(void)
+static void mixtures(size_t most, size_t chained)
 {
     size_t number, times;
     for (number = 0; number < DRAWN; number++) {
         begin(draw(2) ? "true" : "(1 add - - ID mul 2 gt 3)");
         /* a group within, and one after */
         text.open = 2;
-        for (times = 10 + draw(300); times; times--)
-            draw_around();
+        for (times = 10 + draw(most); times; times--)
+            draw_around(chained);
         is_answered("a mixture", ODFILTER_OK);
     }
 }
@@ -264,9 +337,15 @@ int main(int count, char **words)
         chain_of(&chains[number], limit < LIMIT ? 8 : OPEN - 2);
     }
     nested();
-    lambdas("");
-    lambdas("false or true and true eq ");
-    mixtures();
+    lambdas("", OPEN);
+    lambdas("false or true and true eq ", OPEN);
+    lambdas("false or true and true eq ", 25);
+    if (limit == LIMIT)
+        at_the_limit();
+    mixtures(300, 400);
+    translated = 0;
+    mixtures(40, 2);
+    check("some mixtures have conditions", translated > DRAWN);
     odfilter_free(&schema);
     odfilter_free(&type);
     free(room.at);

@@ -33,6 +33,8 @@ static const struct asked cases[] = {
     {"%20$filter=Foo", ODFILTER_QUERY_FAULT, ODFILTER_QUERY_DISGUISED, 0, 0, 0, NULL, 0, 0, 0},
     {"x=1&x=1;$filter=Foo", ODFILTER_QUERY_FAULT, ODFILTER_QUERY_DISGUISED, 1, 0, 0, NULL, 0, 0, 0},
     {"$filter=Active&%2524filter=Foo", ODFILTER_QUERY_FAULT, ODFILTER_QUERY_DISGUISED, 1, 0, 0, NULL, 0, 0, 0},
+    {"[$filter]=Foo", ODFILTER_QUERY_FAULT, ODFILTER_QUERY_DISGUISED, 0, 0, 0, NULL, 0, 0, 0},
+    {"/Products?$filter=Foo", ODFILTER_QUERY_FAULT, ODFILTER_QUERY_DISGUISED, 0, 0, 0, NULL, 0, 0, 0},
     {"", ODFILTER_NO_FILTER, 0, 0, 0, 0, NULL, 0, 0, 0},
     {"$top=5&$count=true&x=%zz", ODFILTER_NO_FILTER, 0, 0, 0, 0, NULL, 0, 0, 0},
 };

@@ -1,5 +1,6 @@
 mod AllColumns
 mod JsonAnswers
+mod LevelsFound
 mod NulFree
 mod OwnSlots
 mod QuietFilters

@@ -1,5 +1,5 @@
 -- What the statements of a whole filter say.
-use Rattle.std.proofs.Common.{◌≡◌, ◌≢◌, ◌↔◌, ◌++◌, ◌∷◌, ◌∙◌, [], ℕ, List, Vec, String, Some, Result, Ok, Err, IfErr, IfOk, true, false, length, refl, sym, ap, subst, Bool, IsTrue, ◌<◌, ◌≤◌, arith}
+use Rattle.std.proofs.Common.{◌≡◌, ◌≢◌, ◌↔◌, ◌++◌, ◌∷◌, ◌∙◌, [], ℕ, List, Vec, String, Some, Result, Ok, Err, IfErr, IfOk, true, false, length, refl, sym, ap, subst, Bool, IsTrue, ◌<◌, ◌≤◌, arith, inr}
 use Rattle.std.specs.Prelude.{◌-◌, ◌^◌, IsSomeAnd, min, slice_get}
 use Rattle.std.specs.declared.alloc.Global.{Global}
 use Rattle.edm_values.specs.MomentParts.{IsMoment, MomentParts}
@@ -193,7 +193,7 @@ module _ (filter : Filter) (now : MomentParts) (dialect : Dialect) (storage : St
     pub refused_depth : (TreeWith filter now Holds (NestsTooDeeply dialect) → SomeTreeWith filter now (NestsTooDeeply dialect)) → result ≡ Err SqlFault.TooDeep → IsTooDeep filter now dialect
     refused_depth one deep =
         let is : IsRefused filter now dialect Holds SqlFault.TooDeep = subst (IsRefused filter now dialect Holds) (same_fault SqlFault.TooDeep deep) refused in
-        (is.0, one is.1)
+        inr (is.0, one is.1)
 
 -- the condition of a fault
 pub fault_is_put : (question : Question) (ranges : List Range) → AreRanges question ranges → EndsOnceOnEntities → IsMoment question.now.civil question.now.offset_minutes → IsTruthAt question.filter 0

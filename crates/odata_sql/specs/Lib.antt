@@ -6,6 +6,7 @@ pub use Rattle.sql_tree.specs.Term
 pub use Rattle.sql_forms.specs.Forms
 pub mod Conditions
 pub mod JsonText
+pub mod Nesting
 pub mod Refusals
 pub mod Translation
 pub mod private

@@ -16,6 +16,7 @@ use Rattle.sql_tree.specs.Term.{Term}
 use Rattle.sql_tree.specs.declared.dialect.Dialect.{Dialect}
 use Rattle.sql_tree.specs.declared.parameter.Parameter.{Parameter}
 use Rattle.sql_tree.specs.declared.json_path.Path.{Path}
+use Rattle.odata_sql.specs.Nesting.{ExceedsLevels}
 use Rattle.odata_sql.specs.Conditions.{FaultsIt, IsItsCode, KeepsIt, SaysOfEach}
 
 -- ---- `Nul`
@@ -106,7 +107,11 @@ fewest_nodes Dialect.PostgreSql = 700
 fewest_nodes Dialect.Sqlite = 9
 
 -- the filter is not small, and such a tree nests too deeply
-abbrev pub IsTooDeep : Filter → MomentParts → Dialect → Type 0
-IsTooDeep filter now dialect =
+abbrev pub IsTooDeepForParser : Filter → MomentParts → Dialect → Type 0
+IsTooDeepForParser filter now dialect =
     (fewest_nodes dialect ≤ length (pre_order (tree_of_filter filter)))
     × SomeTreeWith filter now (NestsTooDeeply dialect)
+
+-- some node stands in too many levels of the filter, whatever the engine; or the engine's parser would not get through
+abbrev pub IsTooDeep : Filter → MomentParts → Dialect → Type 0
+IsTooDeep filter now dialect = ExceedsLevels filter.list.nodes ⊎ IsTooDeepForParser filter now dialect

@@ -10,6 +10,7 @@
 mod columns;
 mod json_text;
 mod laws;
+mod nesting;
 mod nul_free;
 mod sql_fault;
 mod translation;

@@ -7,7 +7,7 @@ pub enum SqlFault {
     /// A text of the filter or a name of the storage holds the character U+0000, which neither engine takes.
     #[error("Nul")]
     Nul,
-    /// The text nests more deeply than the engine's parser goes.
+    /// The filter nests over 100 levels, or the text more deeply than the engine's parser goes.
     #[error("TooDeep")]
     TooDeep,
     /// The table has no column for a property of the row that the filter names.

@@ -3,6 +3,7 @@ ghost use Rattle.std.specs.Prelude.{◌≡◌, ◌↔◌, Err, IfErr, IfOk, IfNo
 ghost use Rattle.sql_tree.specs.TableModel.{storage_in, table_in};
 ghost use Rattle.odata_sql.specs.Conditions.{FaultsIt, IsItsCode, KeepsIt};
 ghost use Rattle.odata_sql.specs.Translation.{CanFault, NeverFaults, Says, table_of};
+ghost use Rattle.odata_sql.specs.Nesting.{ExceedsLevels};
 ghost use Rattle.odata_sql.specs.Refusals.{HasColumns, IsNulFree, IsTooDeep, fewest_nodes, most_symbols};
 ghost use Rattle.odata_sql.specs.declared.sql_fault.SqlFault.{SqlFault};
 ghost use Rattle.odata_sql.specs.private.Refused.{IsRefused, IsRefusedTree};
@@ -11,6 +12,7 @@ ghost use Rattle.odata_ranges.specs.Faults.{AreReportedFrom};
 ghost use Rattle.sql_draft.specs.Translated.{IsTranslated};
 
 use super::columns::has_columns;
+use super::nesting::exceeds_levels;
 use super::nul_free::is_nul_free;
 use super::sql_fault::SqlFault;
 use edm_entities::what_fits_has_its_type;
@@ -122,12 +124,16 @@ pub fn translate(
     ensures no_column { result ≡ Err SqlFault.NoColumn ↔ (IsNulFree checked.now (storage_in storage.entry)
         × ¬ HasColumns checked.now.list.nodes (storage_in storage.entry)) }
     ensures too_deep { result ≡ Err SqlFault.TooDeep → IsTooDeep checked.now now.now dialect }
+    ensures levels { IfOk result (λ _. ¬ ExceedsLevels checked.now.list.nodes) }
 {
     if !is_nul_free(checked, storage) {
         return Err(SqlFault::Nul);
     }
     if !has_columns(checked, storage) {
         return Err(SqlFault::NoColumn);
+    }
+    if exceeds_levels(alloc, checked.nodes())? {
+        return Err(SqlFault::TooDeep);
     }
     entities_are_kept();
     what_fits_has_its_type();

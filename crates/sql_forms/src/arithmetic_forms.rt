@@ -94,6 +94,7 @@ pub(crate) fn put_calculated(
 
 /// Puts the result where it lies within the type, else the fault.
 #[cycle(put)]
+#[inline(never)]
 fn put_checked(
     context: &SqlContext<'_, '_>,
     draft: &mut Draft,
@@ -158,6 +159,7 @@ fn put_is_zero(
 
 /// Puts the whole number that the operator makes, null instead of a divisor 0.
 #[cycle(put)]
+#[inline(never)]
 fn put_unbounded(
     context: &SqlContext<'_, '_>,
     draft: &mut Draft,

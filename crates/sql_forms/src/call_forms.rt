@@ -270,6 +270,7 @@ fn put_carried_faults(
 
 /// Puts the value of the call at an index.
 #[cycle(put)]
+#[inline(never)]
 pub(crate) fn put_call(
     context: &SqlContext<'_, '_>,
     draft: &mut Draft,
@@ -313,6 +314,7 @@ fn own_carrier(
 
 /// Puts the code of the call at an index that gives a truth value and may evaluate to a fault.
 #[cycle(put)]
+#[inline(never)]
 pub(crate) fn put_call_code(
     context: &SqlContext<'_, '_>,
     draft: &mut Draft,

@@ -112,6 +112,7 @@ pub fn put_code(
 
 /// Puts the code of an operand that is a truth value.
 #[cycle(put)]
+#[inline(never)]
 fn put_operand_code(
     context: &SqlContext<'_, '_>,
     draft: &mut Draft,
@@ -135,6 +136,7 @@ fn put_operand_code(
 
 /// Puts the code of a comparison a side of which may be a fault.
 #[cycle(put)]
+#[inline(never)]
 pub(crate) fn put_compared_code(
     context: &SqlContext<'_, '_>,
     draft: &mut Draft,

@@ -71,6 +71,7 @@ fn put_strict(
 
 /// Puts a comparison with null.
 #[cycle(put)]
+#[inline(never)]
 fn put_beside_null(
     context: &SqlContext<'_, '_>,
     draft: &mut Draft,
@@ -130,6 +131,7 @@ pub(crate) fn put_comparison(
 
 /// The same, of two operands one of which is not null.
 #[cycle(put)]
+#[inline(never)]
 fn put_of_one(
     context: &SqlContext<'_, '_>,
     draft: &mut Draft,
@@ -157,6 +159,7 @@ fn put_of_one(
 
 /// The same, of two operands that may be null.
 #[cycle(put)]
+#[inline(never)]
 fn put_of_nullable(
     context: &SqlContext<'_, '_>,
     draft: &mut Draft,
@@ -212,6 +215,7 @@ fn put_same(
 
 /// Puts whether the comparison is true or both sides are null.
 #[cycle(put)]
+#[inline(never)]
 fn put_or_nulls(
     context: &SqlContext<'_, '_>,
     draft: &mut Draft,

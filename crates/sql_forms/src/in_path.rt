@@ -75,6 +75,7 @@ fn kind_of_member(context: &SqlContext<'_, '_>, collection: usize) -> Kind
 
 /// Puts whether some member of the collection at an index is equal to the left side; false over null.
 #[cycle(put)]
+#[inline(never)]
 fn put_has_member(
     context: &SqlContext<'_, '_>,
     draft: &mut Draft,
@@ -101,6 +102,7 @@ fn put_has_member(
 
 /// The same, of a left side that is no fault and is computed once.
 #[cycle(put)]
+#[inline(never)]
 fn put_over_members(
     context: &SqlContext<'_, '_>,
     draft: &mut Draft,
@@ -128,6 +130,7 @@ fn put_over_members(
 
 /// Puts the value of `in` before a path that evaluates to no fault.
 #[cycle(put)]
+#[inline(never)]
 pub(crate) fn put_in_path(
     context: &SqlContext<'_, '_>,
     draft: &mut Draft,
@@ -156,6 +159,7 @@ pub(crate) fn put_in_path(
 
 /// Puts a condition that is true exactly where some member is equal to the left side.
 #[cycle(put)]
+#[inline(never)]
 pub(crate) fn put_kept_in_path(
     context: &SqlContext<'_, '_>,
     draft: &mut Draft,
@@ -183,6 +187,7 @@ pub(crate) fn put_kept_in_path(
 
 /// Puts the code of `in` before a path whose left side may be a fault.
 #[cycle(put)]
+#[inline(never)]
 pub(crate) fn put_in_path_code(
     context: &SqlContext<'_, '_>,
     draft: &mut Draft,
@@ -218,6 +223,7 @@ pub(crate) fn put_in_path_code(
 
 /// The same, of a truth value on the left: a fault is its code, else the member's code is to be equal to it.
 #[cycle(put)]
+#[inline(never)]
 fn put_truth_in_path_code(
     context: &SqlContext<'_, '_>,
     draft: &mut Draft,

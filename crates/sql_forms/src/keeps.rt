@@ -138,6 +138,7 @@ fn asked_code(form: Form) -> Digit
 
 /// Puts whether the code of the node at an index is the one that the form asks for.
 #[cycle(put)]
+#[inline(never)]
 fn put_has_code(
     context: &SqlContext<'_, '_>,
     draft: &mut Draft,

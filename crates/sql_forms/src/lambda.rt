@@ -124,6 +124,7 @@ pub(crate) fn put_unless_missing(
 
 /// Puts the value of a lambda operator that evaluates to no fault.
 #[cycle(put)]
+#[inline(never)]
 pub(crate) fn put_lambda(
     context: &SqlContext<'_, '_>,
     draft: &mut Draft,
@@ -147,6 +148,7 @@ pub(crate) fn put_lambda(
 
 /// Puts a condition that is true exactly where a lambda operator is, which evaluates to no fault.
 #[cycle(put)]
+#[inline(never)]
 pub(crate) fn put_kept_lambda(
     context: &SqlContext<'_, '_>,
     draft: &mut Draft,
@@ -175,6 +177,7 @@ pub(crate) fn put_kept_lambda(
 
 /// Puts the code of a lambda operator whose body may evaluate to a fault: that of the first member that decides.
 #[cycle(put)]
+#[inline(never)]
 pub(crate) fn put_lambda_code(
     context: &SqlContext<'_, '_>,
     draft: &mut Draft,

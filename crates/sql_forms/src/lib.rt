@@ -1,6 +1,9 @@
 //! Nodes of a checked filter as nodes of SQL, each in one of four forms: its value, its code, or a condition that is
 //! true exactly where the node is true, or false.
 //!
+//! A node is written by a call within the call for the one around it. Functions that hold operands stay out of line
+//! (`#[inline(never)]`), so that each level of nodes takes 1.5 KB of stack at most.
+//!
 //! ```rust
 //! let mut draft = Draft::new(alloc);
 //! put_keeps(&context, &mut draft, 0)?; // a condition that is true exactly where the filter is

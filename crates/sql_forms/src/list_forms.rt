@@ -167,6 +167,7 @@ fn put_equal_to_one(
 
 /// Puts the value of `in` before a list that evaluates to no fault.
 #[cycle(put)]
+#[inline(never)]
 pub(crate) fn put_list(
     context: &SqlContext<'_, '_>,
     draft: &mut Draft,
@@ -195,6 +196,7 @@ pub(crate) fn put_list(
 
 /// Puts a condition that is true exactly where the list has the left side.
 #[cycle(put)]
+#[inline(never)]
 pub(crate) fn put_kept_list(
     context: &SqlContext<'_, '_>,
     draft: &mut Draft,
@@ -220,6 +222,7 @@ pub(crate) fn put_kept_list(
 
 /// Puts whether the left side, which is computed once, is equal to one of the items.
 #[cycle(put)]
+#[inline(never)]
 fn put_over_left(
     context: &SqlContext<'_, '_>,
     draft: &mut Draft,
@@ -268,6 +271,7 @@ pub(crate) fn lifted_left(
 
 /// Puts the code of `in` before a list that may evaluate to a fault.
 #[cycle(put)]
+#[inline(never)]
 pub(crate) fn put_list_code(
     context: &SqlContext<'_, '_>,
     draft: &mut Draft,
@@ -320,6 +324,7 @@ fn put_codes(
 
 /// The same, of a truth value on the left, which is bound by its code.
 #[cycle(put)]
+#[inline(never)]
 fn put_truth_list_code(
     context: &SqlContext<'_, '_>,
     draft: &mut Draft,

@@ -116,6 +116,7 @@ pub(crate) fn put_truth(
 
 /// The same, of a node of a collection, of flags or of a list, or of a path.
 #[cycle(put)]
+#[inline(never)]
 fn put_other_truth(
     context: &SqlContext<'_, '_>,
     draft: &mut Draft,
@@ -147,6 +148,7 @@ fn put_other_truth(
 }
 
 /// Puts whether a collection has a member, null for null.
+#[inline(never)]
 fn put_any_item(
     context: &SqlContext<'_, '_>,
     draft: &mut Draft,
@@ -168,6 +170,7 @@ fn put_any_item(
 
 /// Puts `has`, null with a null.
 #[cycle(put)]
+#[inline(never)]
 fn put_has(
     context: &SqlContext<'_, '_>,
     draft: &mut Draft,

@@ -32,6 +32,7 @@ use std::alloc::AllocError;
 /// Puts the value of the node at an index: a number or a text that may be a fault as its carrier has it, a truth value
 /// as one of SQL. Of a node of type Null it is the null of the wanted type.
 #[cycle(put)]
+#[inline(never)]
 pub(crate) fn put_value(
     context: &SqlContext<'_, '_>,
     draft: &mut Draft,
@@ -86,6 +87,7 @@ pub(crate) fn put_value(
 
 /// The same, of an operator of arithmetic.
 #[cycle(put)]
+#[inline(never)]
 fn put_arithmetic(
     context: &SqlContext<'_, '_>,
     draft: &mut Draft,

@@ -66,10 +66,10 @@ length_items : (more : ℕ) → length (item_pieces more) ≡ more + 1
 length_items zero = refl
 length_items (suc more) = omega (arith, length_items more)
 
-pub length_list : (dialect : Dialect) (of_texts : Bool) (count : ℕ) → 0 < length (list_pieces dialect of_texts count)
-    → length (list_pieces dialect of_texts count) ≡ count + 1 + 1
-length_list dialect of_texts zero some = absurd (omega (arith, some))
-length_list dialect of_texts (suc more) some = omega (arith, length_items more)
+pub length_list : (dialect : Dialect) (collated : Bool) (count : ℕ) → 0 < length (list_pieces dialect collated count)
+    → length (list_pieces dialect collated count) ≡ count + 1 + 1
+length_list dialect collated zero some = absurd (omega (arith, some))
+length_list dialect collated (suc more) some = omega (arith, length_items more)
 
 item_before : (more k : ℕ) → k < more → piece_at (item_pieces more) k ≡ codes ", "
 item_before zero k below = absurd (omega (arith, below))
@@ -80,23 +80,23 @@ item_last : (more : ℕ) → piece_at (item_pieces more) more ≡ codes "))"
 item_last zero = refl
 item_last (suc more) = item_last more
 
-pub left_end : (dialect : Dialect) (of_texts : Bool) (count : ℕ) → 1 < length (list_pieces dialect of_texts count)
-    → piece_at (list_pieces dialect of_texts count) 1 ≡ collation dialect of_texts ++ codes " IN ("
-left_end dialect of_texts zero some = absurd (omega (arith, some))
-left_end dialect of_texts (suc more) some = refl
+pub left_end : (dialect : Dialect) (collated : Bool) (count : ℕ) → 1 < length (list_pieces dialect collated count)
+    → piece_at (list_pieces dialect collated count) 1 ≡ collation dialect collated ++ codes " IN ("
+left_end dialect collated zero some = absurd (omega (arith, some))
+left_end dialect collated (suc more) some = refl
 
-pub comma_after : (dialect : Dialect) (of_texts : Bool) (count done : ℕ) → 2 ≤ done → done ≤ count
-    → piece_at (list_pieces dialect of_texts count) done ≡ codes ", "
-comma_after dialect of_texts zero done two few = absurd (omega arith)
-comma_after dialect of_texts (suc more) zero two few = absurd (omega arith)
-comma_after dialect of_texts (suc more) (suc zero) two few = absurd (omega arith)
-comma_after dialect of_texts (suc more) (suc (suc k)) two few = item_before more k (omega arith)
+pub comma_after : (dialect : Dialect) (collated : Bool) (count done : ℕ) → 2 ≤ done → done ≤ count
+    → piece_at (list_pieces dialect collated count) done ≡ codes ", "
+comma_after dialect collated zero done two few = absurd (omega arith)
+comma_after dialect collated (suc more) zero two few = absurd (omega arith)
+comma_after dialect collated (suc more) (suc zero) two few = absurd (omega arith)
+comma_after dialect collated (suc more) (suc (suc k)) two few = item_before more k (omega arith)
 
-pub list_end : (dialect : Dialect) (of_texts : Bool) (count done : ℕ) → 2 ≤ done → done ≡ count + 1
-    → piece_at (list_pieces dialect of_texts count) done ≡ codes "))"
-list_end dialect of_texts zero done two last = absurd (omega arith)
-list_end dialect of_texts (suc more) zero two last = absurd (omega arith)
-list_end dialect of_texts (suc more) (suc zero) two last = absurd (omega arith)
-list_end dialect of_texts (suc more) (suc (suc k)) two last =
+pub list_end : (dialect : Dialect) (collated : Bool) (count done : ℕ) → 2 ≤ done → done ≡ count + 1
+    → piece_at (list_pieces dialect collated count) done ≡ codes "))"
+list_end dialect collated zero done two last = absurd (omega arith)
+list_end dialect collated (suc more) zero two last = absurd (omega arith)
+list_end dialect collated (suc more) (suc zero) two last = absurd (omega arith)
+list_end dialect collated (suc more) (suc (suc k)) two last =
     let same : k ≡ more = omega arith in
     ap (λ (n : ℕ). piece_at (item_pieces more) n) same ∙ item_last more

@@ -57,12 +57,12 @@ code_start dialect LookUp.Never rest two one = one_start dialect LookUp.Never re
 
 -- the digits between quotes, and what a dialect has after them
 pub digits_joined : (dialect : Dialect) (table : LookUp) (written place : List ℕ) → written ≡ table_text table → place ≡ place_cast dialect
-    → (codes "CAST(substr('" ++ (written ++ codes "', ")) ++ place ≡ digit_start dialect table
+    → (codes "CAST(substr('" ++ (written ++ codes "'")) ++ place ≡ digit_start dialect table
 digits_joined dialect table written place digits_are place_is =
-    append_assoc (codes "CAST(substr('") (written ++ codes "', ") place
-    ∙ ap (λ (xs : List ℕ). codes "CAST(substr('" ++ xs) (append_assoc written (codes "', ") place)
-    ∙ ap (λ (xs : List ℕ). codes "CAST(substr('" ++ (xs ++ (codes "', " ++ place))) digits_are
-    ∙ ap (λ (xs : List ℕ). codes "CAST(substr('" ++ (table_text table ++ (codes "', " ++ xs))) place_is
+    append_assoc (codes "CAST(substr('") (written ++ codes "'") place
+    ∙ ap (λ (xs : List ℕ). codes "CAST(substr('" ++ xs) (append_assoc written (codes "'") place)
+    ∙ ap (λ (xs : List ℕ). codes "CAST(substr('" ++ (xs ++ (codes "'" ++ place))) digits_are
+    ∙ ap (λ (xs : List ℕ). codes "CAST(substr('" ++ (table_text table ++ (codes "'" ++ xs))) place_is
 
 -- ---- columns
 

@@ -4,7 +4,7 @@ use Rattle.std.specs.Prelude.{codes}
 use Rattle.edm_values.specs.declared.primitive.PrimitiveType.{PrimitiveType}
 use Rattle.odata_syntax.specs.declared.binary_operator.ArithmeticOperator.{ArithmeticOperator}
 use Rattle.odata_syntax.specs.declared.binary_operator.ComparisonOperator.{ComparisonOperator}
-use Rattle.sql_tree.specs.FixedPieces.{between, carried_pieces, collation, comparison_pieces, comparison_sign, fault_code_pieces, fault_pieces, is_text, plain_pieces, range_pieces, sameness_pieces, sameness_sign, unfault_pieces, wide_pieces}
+use Rattle.sql_tree.specs.FixedPieces.{between, bits_pieces, carried_pieces, collation, comparison_pieces, comparison_sign, fault_code_pieces, fault_pieces, is_collated, plain_pieces, range_pieces, sameness_pieces, sameness_sign, unfault_pieces, wide_pieces}
 use Rattle.sql_tree.specs.FunctionPieces.{function_pieces, postgres_function, sqlite_function}
 use Rattle.sql_tree.specs.NodePieces.{pieces_for_codes}
 use Rattle.sql_tree.specs.TableDigits.{arity_of_table}
@@ -22,13 +22,19 @@ collation_quiet Dialect.PostgreSql true = λ depth. refl
 collation_quiet Dialect.Sqlite true = λ depth. refl
 collation_quiet dialect false = λ depth. refl
 
-comparison_quiet : (operator : ComparisonOperator) → IsQuiet (comparison_sign operator)
-comparison_quiet ComparisonOperator.Eq = λ depth. refl
-comparison_quiet ComparisonOperator.Ne = λ depth. refl
-comparison_quiet ComparisonOperator.Gt = λ depth. refl
-comparison_quiet ComparisonOperator.Ge = λ depth. refl
-comparison_quiet ComparisonOperator.Lt = λ depth. refl
-comparison_quiet ComparisonOperator.Le = λ depth. refl
+comparison_quiet : (dialect : Dialect) (operator : ComparisonOperator) → IsQuiet (comparison_sign dialect operator)
+comparison_quiet Dialect.PostgreSql ComparisonOperator.Eq = λ depth. refl
+comparison_quiet Dialect.PostgreSql ComparisonOperator.Ne = λ depth. refl
+comparison_quiet Dialect.PostgreSql ComparisonOperator.Gt = λ depth. refl
+comparison_quiet Dialect.PostgreSql ComparisonOperator.Ge = λ depth. refl
+comparison_quiet Dialect.PostgreSql ComparisonOperator.Lt = λ depth. refl
+comparison_quiet Dialect.PostgreSql ComparisonOperator.Le = λ depth. refl
+comparison_quiet Dialect.Sqlite ComparisonOperator.Eq = λ depth. refl
+comparison_quiet Dialect.Sqlite ComparisonOperator.Ne = λ depth. refl
+comparison_quiet Dialect.Sqlite ComparisonOperator.Gt = λ depth. refl
+comparison_quiet Dialect.Sqlite ComparisonOperator.Ge = λ depth. refl
+comparison_quiet Dialect.Sqlite ComparisonOperator.Lt = λ depth. refl
+comparison_quiet Dialect.Sqlite ComparisonOperator.Le = λ depth. refl
 
 sameness_quiet : (dialect : Dialect) → IsQuiet (sameness_sign dialect)
 sameness_quiet Dialect.PostgreSql = λ depth. refl
@@ -40,13 +46,18 @@ sign_weaves sign quiet = λ depth. (suc depth, refl, (suc depth, quiet (suc dept
 
 pub comparison_weaves : (dialect : Dialect) (operator : ComparisonOperator) (type : SqlType) → WeavesQuietly (comparison_pieces dialect operator type)
 comparison_weaves dialect operator type =
-    sign_weaves (collation dialect (is_text type) ++ comparison_sign operator)
-    (quiet_both (collation dialect (is_text type)) (comparison_sign operator) (collation_quiet dialect (is_text type)) (comparison_quiet operator))
+    sign_weaves (collation dialect (is_collated dialect type) ++ comparison_sign dialect operator)
+    (quiet_both (collation dialect (is_collated dialect type)) (comparison_sign dialect operator) (collation_quiet dialect (is_collated dialect type)) (comparison_quiet dialect operator))
+
+sameness_of : (dialect : Dialect) (collated : Bool) → WeavesQuietly (between (codes "(") (collation dialect collated ++ sameness_sign dialect) (codes ")"))
+sameness_of dialect collated =
+    sign_weaves (collation dialect collated ++ sameness_sign dialect)
+    (quiet_both (collation dialect collated) (sameness_sign dialect) (collation_quiet dialect collated) (sameness_quiet dialect))
 
 pub sameness_weaves : (dialect : Dialect) (type : SqlType) → WeavesQuietly (sameness_pieces dialect type)
-sameness_weaves dialect type =
-    sign_weaves (collation dialect (is_text type) ++ sameness_sign dialect)
-    (quiet_both (collation dialect (is_text type)) (sameness_sign dialect) (collation_quiet dialect (is_text type)) (sameness_quiet dialect))
+sameness_weaves Dialect.PostgreSql SqlType.Whole = λ depth. (suc (suc depth), refl, (suc (suc depth), refl, refl))
+sameness_weaves Dialect.PostgreSql type = sameness_of Dialect.PostgreSql (is_collated Dialect.PostgreSql type)
+sameness_weaves Dialect.Sqlite type = sameness_of Dialect.Sqlite (is_collated Dialect.Sqlite type)
 
 -- ---- arithmetic
 
@@ -75,12 +86,16 @@ wide_weaves Dialect.Sqlite ArithmeticOperator.Div = λ depth. (suc depth, refl, 
 wide_weaves Dialect.Sqlite ArithmeticOperator.Mod = λ depth. (suc depth, refl, (suc depth, refl, refl))
 
 pub range_weaves : (dialect : Dialect) (type : PrimitiveType) → WeavesQuietly (range_pieces dialect type)
-range_weaves Dialect.PostgreSql PrimitiveType.Int16 = λ depth. (suc depth, refl, refl)
+range_weaves Dialect.PostgreSql PrimitiveType.Int16 = λ depth. (suc (suc depth), refl, refl)
 range_weaves Dialect.Sqlite PrimitiveType.Int16 = λ depth. (suc depth, refl, refl)
-range_weaves Dialect.PostgreSql PrimitiveType.Int32 = λ depth. (suc depth, refl, refl)
+range_weaves Dialect.PostgreSql PrimitiveType.Int32 = λ depth. (suc (suc depth), refl, refl)
 range_weaves Dialect.Sqlite PrimitiveType.Int32 = λ depth. (suc depth, refl, refl)
-range_weaves Dialect.PostgreSql _ = λ depth. (suc depth, refl, refl)
+range_weaves Dialect.PostgreSql _ = λ depth. (suc (suc depth), refl, refl)
 range_weaves Dialect.Sqlite _ = λ depth. (suc (suc depth), refl, refl)
+
+pub bits_weaves : (dialect : Dialect) → WeavesQuietly (bits_pieces dialect)
+bits_weaves Dialect.PostgreSql = λ depth. (suc (suc depth), refl, (suc (suc depth), refl, refl))
+bits_weaves Dialect.Sqlite = λ depth. (suc depth, refl, (suc depth, refl, refl))
 
 -- ---- faults
 

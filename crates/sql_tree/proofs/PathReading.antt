@@ -60,8 +60,8 @@ module _ (table : TableModel) (plain : AreNamesPlain table) where
 
   arrow_quiet : (arrow : List ℕ) (step : Step) → IsQuiet arrow → IsQuiet (arrow_text table arrow step)
   arrow_quiet arrow step quiet =
-      quiet_both (codes " ") (arrow ++ (codes " '" ++ (step_name table step ++ codes "'"))) (λ depth. refl)
-      (quiet_both arrow (codes " '" ++ (step_name table step ++ codes "'")) quiet (named (codes " '") (step_name table step) (codes "'") (λ depth. refl) (plain.steps step) (λ depth. refl)))
+      quiet_both (codes " ") (arrow ++ (codes " '" ++ (step_name table step ++ codes "'::text"))) (λ depth. refl)
+      (quiet_both arrow (codes " '" ++ (step_name table step ++ codes "'::text")) quiet (named (codes " '") (step_name table step) (codes "'::text") (λ depth. refl) (plain.steps step) (λ depth. refl)))
 
   arrows_quiet : (steps : List Step) → IsQuiet (arrows_text table steps)
   arrows_quiet [] = λ depth. refl

@@ -5,7 +5,7 @@ use Rattle.std.specs.Prelude.{IsSomeAnd, option_map, slice_get, unwrap_or}
 use Rattle.odata_syntax.specs.declared.binary_operator.ArithmeticOperator.{ArithmeticOperator}
 use Rattle.odata_syntax.specs.declared.node.Quantifier.{Quantifier}
 use Rattle.edm_values.specs.declared.primitive.PrimitiveType.{PrimitiveType}
-use Rattle.sql_tree.specs.FixedPieces.{PieceTexts, carried_pieces, comparison_pieces, fault_code_pieces, fault_pieces, is_text, plain_pieces, range_pieces, sameness_pieces, unfault_pieces, wide_pieces}
+use Rattle.sql_tree.specs.FixedPieces.{PieceTexts, bits_pieces, carried_pieces, comparison_pieces, fault_code_pieces, fault_pieces, is_collated, plain_pieces, range_pieces, sameness_pieces, unfault_pieces, wide_pieces}
 use Rattle.sql_tree.specs.FunctionPieces.{function_pieces}
 use Rattle.sql_tree.specs.LeafText.{count_text, field_text, missing_text}
 use Rattle.sql_tree.specs.NodePieces.{binding_pieces, exists_pieces, item_pieces, least_pieces, let_pieces, list_pieces, node_pieces, of_path, pieces_for_codes}
@@ -68,10 +68,21 @@ wide_many Dialect.PostgreSql operator = refl
 wide_many Dialect.Sqlite operator = refl
 
 range_many : (dialect : Dialect) (type : PrimitiveType) → length (range_pieces dialect type) ≡ 2
-range_many dialect PrimitiveType.Int16 = refl
-range_many dialect PrimitiveType.Int32 = refl
+range_many Dialect.PostgreSql PrimitiveType.Int16 = refl
+range_many Dialect.PostgreSql PrimitiveType.Int32 = refl
 range_many Dialect.PostgreSql type = refl
+range_many Dialect.Sqlite PrimitiveType.Int16 = refl
+range_many Dialect.Sqlite PrimitiveType.Int32 = refl
 range_many Dialect.Sqlite type = refl
+
+same_many : (dialect : Dialect) (type : SqlType) → length (sameness_pieces dialect type) ≡ 3
+same_many Dialect.PostgreSql SqlType.Whole = refl
+same_many Dialect.PostgreSql type = refl
+same_many Dialect.Sqlite type = refl
+
+bits_many : (dialect : Dialect) → length (bits_pieces dialect) ≡ 3
+bits_many Dialect.PostgreSql = refl
+bits_many Dialect.Sqlite = refl
 
 fault_code_many : (dialect : Dialect) (carrier : Carrier) → length (fault_code_pieces dialect carrier) ≡ 2
 fault_code_many Dialect.PostgreSql Carrier.Number = refl
@@ -114,11 +125,13 @@ pieces_many dialect table paths (SqlNode.Count path) some names = path_many path
 pieces_many dialect table paths (SqlNode.Exists path level) some names = path_many paths path 2 (λ (p : Path). exists_pieces dialect table p level) (IsPathOf table) names (λ p. refl)
 pieces_many dialect table paths (SqlNode.Least path level) some names = path_many paths path 2 (λ (p : Path). least_pieces dialect table p level) (IsPathOf table) names (λ p. refl)
 pieces_many dialect table paths (SqlNode.Let level count) some names = let_many dialect level count some
-pieces_many dialect table paths (SqlNode.Among count type) some names = list_many dialect (is_text type) count type some
+pieces_many dialect table paths (SqlNode.Among count type) some names = list_many dialect (is_collated dialect type) count type some
 pieces_many dialect table paths (SqlNode.LookUp looked) some names = table_many dialect looked
 pieces_many dialect table paths (SqlNode.Plain operator) some names = plain_many dialect operator
 pieces_many dialect table paths (SqlNode.Wide operator) some names = wide_many dialect operator
 pieces_many dialect table paths (SqlNode.Within type) some names = range_many dialect type
+pieces_many dialect table paths (SqlNode.Same type) some names = same_many dialect type
+pieces_many dialect table paths SqlNode.Bits some names = bits_many dialect
 pieces_many dialect table paths (SqlNode.FaultCode carrier) some names = fault_code_many dialect carrier
 pieces_many dialect table paths (SqlNode.FaultOfCode carrier) some names = fault_many dialect carrier
 pieces_many dialect table paths (SqlNode.Unfault carrier) some names = unfault_many dialect carrier

@@ -3,7 +3,7 @@ use Rattle.std.proofs.Common.{◌≡◌, ◌∙◌, ℕ, zero, suc, ◌+◌, Lis
 use Rattle.std.specs.Prelude.{IsSomeAnd, codes, option_map, unwrap_or}
 use Rattle.std.specs.Fmt.{decimal}
 use Rattle.odata_syntax.specs.declared.node.Quantifier.{Quantifier}
-use Rattle.sql_tree.specs.FixedPieces.{PieceTexts, collation, is_text}
+use Rattle.sql_tree.specs.FixedPieces.{PieceTexts, collation, is_collated}
 use Rattle.sql_tree.specs.LeafText.{count_text, field_text, missing_text}
 use Rattle.sql_tree.specs.NodePieces.{binding_pieces, decision_text, decisions_text, exists_pieces, item_pieces, least_pieces, let_end, let_pieces, list_pieces, name_of_bound, node_pieces, of_path}
 use Rattle.sql_tree.specs.Parentheses.{AreBalanced, AreNamesPlain, outside, read}
@@ -14,7 +14,7 @@ use Rattle.sql_tree.specs.TreeText.{AreWhole, IsWhole, NamesWhatIs, count_of, te
 use Rattle.sql_tree.specs.declared.dialect.Dialect.{Dialect}
 use Rattle.sql_tree.specs.declared.sql_node.SqlNode.{SqlNode}
 use Rattle.sql_tree.specs.declared.json_path.Path.{Path}
-use Rattle.sql_tree.proofs.FixedReading.{carried_weaves, collation_quiet, comparison_weaves, fault_code_weaves, fault_weaves, function_weaves, plain_weaves, range_weaves, sameness_weaves, table_weaves, unfault_weaves, wide_weaves}
+use Rattle.sql_tree.proofs.FixedReading.{bits_weaves, carried_weaves, collation_quiet, comparison_weaves, fault_code_weaves, fault_weaves, function_weaves, plain_weaves, range_weaves, sameness_weaves, table_weaves, unfault_weaves, wide_weaves}
 use Rattle.sql_tree.proofs.PathReading.{column_quiet, count_quiet, fault_quiet, field_quiet, members_quiet, missing_quiet, null_quiet, number_quiet, parameter_quiet, truth_quiet}
 use Rattle.sql_tree.proofs.Reading.{IsQuiet, Weaves, WeavesQuietly, both, decimal_quiet, quiet_both}
 
@@ -51,13 +51,13 @@ items_weave : (more depth : ℕ) → Weaves (item_pieces more) (suc (suc depth))
 items_weave zero depth = refl
 items_weave (suc more) depth = weave_more (codes ", ") (item_pieces more) (suc (suc depth)) (suc (suc depth)) depth refl (items_weave more depth)
 
-list_weaves : (dialect : Dialect) (of_texts : Bool) (count : ℕ) → (length (list_pieces dialect of_texts count) ≡ 0 → ⊥) → WeavesQuietly (list_pieces dialect of_texts count)
-list_weaves dialect of_texts zero some = absurd (some refl)
-list_weaves dialect of_texts (suc more) some = λ depth. (
+list_weaves : (dialect : Dialect) (collated : Bool) (count : ℕ) → (length (list_pieces dialect collated count) ≡ 0 → ⊥) → WeavesQuietly (list_pieces dialect collated count)
+list_weaves dialect collated zero some = absurd (some refl)
+list_weaves dialect collated (suc more) some = λ depth. (
   suc depth,
   refl,
-  weave_more (collation dialect of_texts ++ codes " IN (") (item_pieces more) (suc depth) (suc (suc depth)) depth
-      (both (outside (suc depth)) (outside (suc depth)) (outside (suc (suc depth))) (collation dialect of_texts) (codes " IN (") (collation_quiet dialect of_texts (suc depth)) refl)
+  weave_more (collation dialect collated ++ codes " IN (") (item_pieces more) (suc depth) (suc (suc depth)) depth
+      (both (outside (suc depth)) (outside (suc depth)) (outside (suc (suc depth))) (collation dialect collated) (codes " IN (") (collation_quiet dialect collated (suc depth)) refl)
       (items_weave more depth),
 )
 
@@ -130,10 +130,10 @@ module _ (dialect : Dialect) (table : TableModel) (plain : AreNamesPlain table) 
   node_weaves (SqlNode.FaultOfCode carrier) count many named = fault_weaves dialect carrier
   node_weaves (SqlNode.Unfault carrier) count many named = unfault_weaves dialect carrier
   node_weaves (SqlNode.Carried carrier) count many named = carried_weaves dialect carrier
-  node_weaves SqlNode.Bits count many named = λ depth. (suc depth, refl, (suc depth, refl, refl))
+  node_weaves SqlNode.Bits count many named = bits_weaves dialect
   node_weaves SqlNode.HasBits count many named = λ depth. (suc (suc depth), refl, (suc (suc depth), refl, refl))
   node_weaves (SqlNode.Function function) count many named = function_weaves dialect function
-  node_weaves (SqlNode.Among items type) count many named = list_weaves dialect (is_text type) items (λ none. no_pieces count (sym none ∙ many))
+  node_weaves (SqlNode.Among items type) count many named = list_weaves dialect (is_collated dialect type) items (λ none. no_pieces count (sym none ∙ many))
   node_weaves (SqlNode.Decided quantifier level) count many named = λ depth. (suc depth, refl, decisions_close dialect quantifier level depth)
   node_weaves (SqlNode.LookUp look_up) count many named = table_weaves dialect look_up
   node_weaves (SqlNode.Let level values) count many named = let_weaves dialect level values (λ none. no_pieces count (sym none ∙ many))

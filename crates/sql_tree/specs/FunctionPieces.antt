@@ -1,5 +1,5 @@
 -- The pieces of functions, one before each argument and one at the end. In SQLite an argument that is needed twice is
--- bound by a sub-select.
+-- bound by a sub-select; what a function of SQLite gives has no collation, and what is bound may have a column's.
 use Rattle.std.specs.Prelude.{◌++◌, codes}
 use Rattle.sql_tree.specs.FixedPieces.{PieceTexts, among, around, between}
 use Rattle.sql_tree.specs.declared.dialect.Dialect.{Dialect}
@@ -18,9 +18,9 @@ postgres_function SqlFunction.PartFrom =
     among (codes "odf.substring(") (codes ", (") (codes ")::numeric, (") (codes ")::numeric)")
 postgres_function SqlFunction.Trim = around (codes "odf.trim(") (codes ")")
 postgres_function SqlFunction.ToLower =
-    around (codes "translate(") (codes ", 'ABCDEFGHIJKLMNOPQRSTUVWXYZ', 'abcdefghijklmnopqrstuvwxyz')")
+    around (codes "translate(") (codes ", 'ABCDEFGHIJKLMNOPQRSTUVWXYZ'::text, 'abcdefghijklmnopqrstuvwxyz'::text)")
 postgres_function SqlFunction.ToUpper =
-    around (codes "translate(") (codes ", 'abcdefghijklmnopqrstuvwxyz', 'ABCDEFGHIJKLMNOPQRSTUVWXYZ')")
+    around (codes "translate(") (codes ", 'abcdefghijklmnopqrstuvwxyz'::text, 'ABCDEFGHIJKLMNOPQRSTUVWXYZ'::text)")
 postgres_function SqlFunction.YearOfDate = around (codes "extract(year FROM ") (codes ")::integer")
 postgres_function SqlFunction.MonthOfDate = around (codes "extract(month FROM ") (codes ")::integer")
 postgres_function SqlFunction.DayOfDate = around (codes "extract(day FROM ") (codes ")::integer")
@@ -38,10 +38,11 @@ postgres_function SqlFunction.Instant = around (codes "odf.instant(") (codes ")"
 abbrev pub sqlite_function : SqlFunction → PieceTexts
 sqlite_function SqlFunction.Contains = between (codes "(instr(") (codes ", ") (codes ") > 0)")
 sqlite_function SqlFunction.StartsWith =
-    between (codes "(SELECT substr(a, 1, length(b)) = b FROM (SELECT ") (codes " AS a, ") (codes " AS b))")
+    between (codes "(SELECT substr(a, 1, length(b)) COLLATE BINARY = b FROM (SELECT ") (codes " AS a, ") (codes " AS b))")
 sqlite_function SqlFunction.EndsWith =
     between
-    (codes "(SELECT length(a) >= length(b) AND substr(a, length(a) - length(b) + 1) = b FROM (SELECT ")
+    (codes "(SELECT length(a) >= length(b) AND substr(a, length(a) - length(b) + 1) COLLATE BINARY = b "
+    ++ codes "FROM (SELECT ")
     (codes " AS a, ")
     (codes " AS b))")
 sqlite_function SqlFunction.Concat = between (codes "(") (codes " || ") (codes ")")

@@ -107,7 +107,7 @@ abbrev pub some_cases : List MemberModel → List ℕ
 some_cases [] = codes " WHEN NULL THEN NULL"
 some_cases (m ∷ ms) = cases_text (m ∷ ms)
 
--- the number of a piece of a text, which goes by `p`
+-- the number of a piece of a text, which goes by `p`; a function of SQLite gives it, so it has no column's collation
 abbrev pub piece_number_text : List MemberModel → List ℕ
 piece_number_text members = codes "CASE p" ++ (some_cases members ++ codes " ELSE CAST(p AS integer) END")
 

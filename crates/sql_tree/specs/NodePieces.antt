@@ -2,7 +2,7 @@
 use Rattle.std.specs.Prelude.{ℕ, zero, suc, ◌+◌, List, [], ◌∷◌, ◌++◌, Bool, Option, Some, None, codes, option_map, slice_get, unwrap_or}
 use Rattle.std.specs.Fmt.{decimal}
 use Rattle.odata_syntax.specs.declared.node.Quantifier.{Quantifier}
-use Rattle.sql_tree.specs.FixedPieces.{PieceTexts, among, around, between, carried_pieces, collation, comparison_pieces, fault_code_pieces, fault_pieces, is_text, plain_pieces, range_pieces, sameness_pieces, unfault_pieces, wide_pieces}
+use Rattle.sql_tree.specs.FixedPieces.{PieceTexts, among, around, between, bits_pieces, carried_pieces, collation, comparison_pieces, fault_code_pieces, fault_pieces, is_collated, plain_pieces, range_pieces, sameness_pieces, unfault_pieces, wide_pieces}
 use Rattle.sql_tree.specs.FunctionPieces.{function_pieces}
 use Rattle.sql_tree.specs.LeafText.{count_text, fault_text, field_text, missing_text, null_text, number_text, parameter_text, truth_text}
 use Rattle.sql_tree.specs.PathText.{members_text}
@@ -15,17 +15,17 @@ use Rattle.sql_tree.specs.declared.json_path.Path.{Path}
 
 -- ---- tables of codes
 
--- in PostgreSQL an offset in a text is an integer of 32 bits
+-- between a table and its offset: in PostgreSQL it is a text, and an offset in one is an integer of 32 bits
 abbrev pub place_cast : Dialect → List ℕ
-place_cast Dialect.PostgreSql = codes "CAST("
-place_cast Dialect.Sqlite = []
+place_cast Dialect.PostgreSql = codes "::text, CAST("
+place_cast Dialect.Sqlite = codes ", "
 
 abbrev pub digit_end : Dialect → List ℕ
 digit_end Dialect.PostgreSql = codes " + 1 AS integer), 1) AS integer)"
 digit_end Dialect.Sqlite = codes " + 1, 1) AS integer)"
 
 abbrev pub digit_start : Dialect → LookUp → List ℕ
-digit_start dialect table = codes "CAST(substr('" ++ (table_text table ++ (codes "', " ++ place_cast dialect))
+digit_start dialect table = codes "CAST(substr('" ++ (table_text table ++ (codes "'" ++ place_cast dialect))
 
 abbrev pub pieces_for_codes : Dialect → LookUp → ℕ → PieceTexts
 pieces_for_codes dialect table (suc zero) = around (digit_start dialect table) (digit_end dialect)
@@ -63,8 +63,8 @@ item_pieces (suc more) = codes ", " ∷ item_pieces more
 
 -- the left side, and the items, one at least
 abbrev pub list_pieces : Dialect → Bool → ℕ → PieceTexts
-list_pieces dialect of_texts zero = []
-list_pieces dialect of_texts (suc more) = codes "(" ∷ (collation dialect of_texts ++ codes " IN (") ∷ item_pieces more
+list_pieces dialect collated zero = []
+list_pieces dialect collated (suc more) = codes "(" ∷ (collation dialect collated ++ codes " IN (") ∷ item_pieces more
 
 -- ---- members
 
@@ -117,7 +117,7 @@ fixed_pieces dialect (SqlNode.FaultCode carrier) = Some (fault_code_pieces diale
 fixed_pieces dialect (SqlNode.FaultOfCode carrier) = Some (fault_pieces dialect carrier)
 fixed_pieces dialect (SqlNode.Unfault carrier) = Some (unfault_pieces dialect carrier)
 fixed_pieces dialect (SqlNode.Carried carrier) = Some (carried_pieces dialect carrier)
-fixed_pieces dialect SqlNode.Bits = Some (between (codes "(") (codes " & ") (codes ")"))
+fixed_pieces dialect SqlNode.Bits = Some (bits_pieces dialect)
 fixed_pieces dialect SqlNode.HasBits = Some (between (codes "((~ ") (codes " & ") (codes ") = 0)"))
 fixed_pieces dialect (SqlNode.Function function) = Some (function_pieces dialect function)
 fixed_pieces dialect node = None
@@ -136,7 +136,7 @@ named_pieces dialect table paths (SqlNode.IsMissing path) =
 named_pieces dialect table paths (SqlNode.Count path) = of_path paths path (λ p. count_text dialect table p ∷ [])
 named_pieces dialect table paths (SqlNode.Bound level) = (codes "b" ++ decimal level) ∷ []
 named_pieces dialect table paths (SqlNode.Fault carrier fault) = fault_text dialect carrier fault ∷ []
-named_pieces dialect table paths (SqlNode.Among count type) = list_pieces dialect (is_text type) count
+named_pieces dialect table paths (SqlNode.Among count type) = list_pieces dialect (is_collated dialect type) count
 named_pieces dialect table paths (SqlNode.Decided quantifier level) =
     around (codes "(CASE ") (decisions_text dialect quantifier level)
 named_pieces dialect table paths (SqlNode.LookUp look_up) = pieces_for_codes dialect look_up (arity_of_table look_up)

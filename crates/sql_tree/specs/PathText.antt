@@ -37,9 +37,9 @@ base_text dialect table (Base.Column slot) = column_text table slot
 base_text Dialect.PostgreSql table (Base.Member level) = codes "m" ++ (decimal level ++ codes ".v")
 base_text Dialect.Sqlite table (Base.Member level) = codes "m" ++ (decimal level ++ codes ".value")
 
--- in PostgreSQL the names of steps stand between quotes, each after an arrow
+-- in PostgreSQL the names of steps are texts between quotes, each after an arrow
 abbrev pub arrow_text : TableModel → List ℕ → Step → List ℕ
-arrow_text table arrow step = codes " " ++ (arrow ++ (codes " '" ++ (step_name table step ++ codes "'")))
+arrow_text table arrow step = codes " " ++ (arrow ++ (codes " '" ++ (step_name table step ++ codes "'::text")))
 
 -- texts of steps, one after another
 abbrev pub each_text : (Step → List ℕ) → List Step → List ℕ
@@ -52,7 +52,7 @@ arrows_text table = each_text (arrow_text table (codes "->"))
 
 -- the last step of all leads to a text
 abbrev pub scalar_arrows : TableModel → List Step → List ℕ
-scalar_arrows table [] = codes " #>> '{}'"
+scalar_arrows table [] = codes " #>> '{}'::text[]"
 scalar_arrows table (step ∷ []) = arrow_text table (codes "->>") step
 scalar_arrows table (step ∷ steps) = arrow_text table (codes "->") step ++ scalar_arrows table steps
 

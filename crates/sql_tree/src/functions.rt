@@ -1,4 +1,5 @@
-//! The texts of functions. In SQLite an operand that is needed twice is bound by a sub-select.
+//! The texts of functions. In SQLite an operand that is needed twice is bound by a sub-select, which may have the
+//! collation of a column.
 ghost use Rattle.std.specs.Prelude.{◌≡◌};
 ghost use Rattle.sql_tree.specs.FunctionPieces.{function_pieces as function_texts, postgres_function, sqlite_function};
 ghost use Rattle.sql_tree.specs.PiecesView.{pieces_in};
@@ -34,13 +35,13 @@ fn postgres_pieces(function: SqlFunction) -> Pieces
         SqlFunction::ToLower => {
             one(
                 "translate(",
-                ", 'ABCDEFGHIJKLMNOPQRSTUVWXYZ', 'abcdefghijklmnopqrstuvwxyz')",
+                ", 'ABCDEFGHIJKLMNOPQRSTUVWXYZ'::text, 'abcdefghijklmnopqrstuvwxyz'::text)",
             )
         }
         SqlFunction::ToUpper => {
             one(
                 "translate(",
-                ", 'abcdefghijklmnopqrstuvwxyz', 'ABCDEFGHIJKLMNOPQRSTUVWXYZ')",
+                ", 'abcdefghijklmnopqrstuvwxyz'::text, 'ABCDEFGHIJKLMNOPQRSTUVWXYZ'::text)",
             )
         }
         _ => postgres_time_pieces(function),
@@ -89,13 +90,14 @@ fn sqlite_pieces(function: SqlFunction) -> Pieces
         SqlFunction::Contains => two("(instr(", ", ", ") > 0)"),
         SqlFunction::StartsWith => {
             two(
-                "(SELECT substr(a, 1, length(b)) = b FROM (SELECT ",
+                "(SELECT substr(a, 1, length(b)) COLLATE BINARY = b FROM (SELECT ",
                 " AS a, ",
                 " AS b))",
             )
         }
         SqlFunction::EndsWith => two(
-            "(SELECT length(a) >= length(b) AND substr(a, length(a) - length(b) + 1) = b FROM (SELECT ",
+            "(SELECT length(a) >= length(b) AND substr(a, length(a) - length(b) + 1) COLLATE BINARY = b \
+             FROM (SELECT ",
             " AS a, ",
             " AS b))",
         ),

@@ -1,6 +1,6 @@
 //! The texts of nodes whose text is fixed, around and between their children.
-ghost use Rattle.std.specs.Prelude.{◌≡◌, ◌<◌, ◌≤◌, [], ◌++◌, IfSome, codes, option_map};
-ghost use Rattle.sql_tree.specs.FixedPieces.{among, around, between, comparison_sign, of_texts};
+ghost use Rattle.std.specs.Prelude.{◌≡◌, ◌<◌, ◌≤◌, [], ◌++◌, IfSome, codes, false, option_map, true};
+ghost use Rattle.sql_tree.specs.FixedPieces.{among, around, between, bits_pieces as bits_texts, compared_pieces};
 ghost use Rattle.sql_tree.specs.FixedPieces.{carried_pieces as carried_texts};
 ghost use Rattle.sql_tree.specs.FixedPieces.{comparison_pieces as comparison_texts};
 ghost use Rattle.sql_tree.specs.FixedPieces.{fault_code_pieces as fault_code_texts, fault_pieces as fault_texts};
@@ -86,28 +86,54 @@ pub(crate) fn pieces_of(dialect: Dialect, node: SqlNode) -> Option<Pieces>
         SqlNode::FaultOfCode { carrier } => Some(fault_pieces(dialect, carrier)),
         SqlNode::Unfault { carrier } => Some(unfault_pieces(dialect, carrier)),
         SqlNode::Carried { carrier } => Some(carried_pieces(dialect, carrier)),
-        SqlNode::Bits => Some(two("(", " & ", ")")),
+        SqlNode::Bits => Some(bits_pieces(dialect)),
         SqlNode::HasBits => Some(two("((~ ", " & ", ") = 0)")),
         SqlNode::Function { function } => Some(function_pieces(dialect, function)),
         _ => None,
     }
 }
 
-/// Texts are compared by their characters, whatever the collation of the database.
+/// Texts are compared by their characters, whatever the collation of a column or of the database. In PostgreSQL an
+/// operator is named with its schema.
 fn comparison_pieces(dialect: Dialect, operator: ComparisonOperator, value_type: SqlType) -> Pieces
     ensures texts { pieces_in result ≡ comparison_texts dialect operator value_type }
 {
-    if !value_type.is_text() {
-        return plain_comparison(operator);
-    }
-    match dialect {
-        Dialect::PostgreSql => postgres_comparison(operator),
-        Dialect::Sqlite => sqlite_comparison(operator),
+    match (dialect, value_type.is_collated(dialect)) {
+        (Dialect::PostgreSql, false) => postgres_comparison(operator),
+        (Dialect::PostgreSql, true) => postgres_text_comparison(operator),
+        (Dialect::Sqlite, false) => sqlite_comparison(operator),
+        (Dialect::Sqlite, true) => sqlite_text_comparison(operator),
     }
 }
 
-fn plain_comparison(operator: ComparisonOperator) -> Pieces
-    ensures texts { pieces_in result ≡ between (codes "(") (comparison_sign operator) (codes ")") }
+fn postgres_comparison(operator: ComparisonOperator) -> Pieces
+    ensures texts { pieces_in result ≡ compared_pieces Dialect.PostgreSql false operator }
+{
+    match operator {
+        ComparisonOperator::Eq => two("(", " OPERATOR(pg_catalog.=) ", ")"),
+        ComparisonOperator::Ne => two("(", " OPERATOR(pg_catalog.<>) ", ")"),
+        ComparisonOperator::Gt => two("(", " OPERATOR(pg_catalog.>) ", ")"),
+        ComparisonOperator::Ge => two("(", " OPERATOR(pg_catalog.>=) ", ")"),
+        ComparisonOperator::Lt => two("(", " OPERATOR(pg_catalog.<) ", ")"),
+        ComparisonOperator::Le => two("(", " OPERATOR(pg_catalog.<=) ", ")"),
+    }
+}
+
+fn postgres_text_comparison(operator: ComparisonOperator) -> Pieces
+    ensures texts { pieces_in result ≡ compared_pieces Dialect.PostgreSql true operator }
+{
+    match operator {
+        ComparisonOperator::Eq => two("(", " COLLATE \"C\" OPERATOR(pg_catalog.=) ", ")"),
+        ComparisonOperator::Ne => two("(", " COLLATE \"C\" OPERATOR(pg_catalog.<>) ", ")"),
+        ComparisonOperator::Gt => two("(", " COLLATE \"C\" OPERATOR(pg_catalog.>) ", ")"),
+        ComparisonOperator::Ge => two("(", " COLLATE \"C\" OPERATOR(pg_catalog.>=) ", ")"),
+        ComparisonOperator::Lt => two("(", " COLLATE \"C\" OPERATOR(pg_catalog.<) ", ")"),
+        ComparisonOperator::Le => two("(", " COLLATE \"C\" OPERATOR(pg_catalog.<=) ", ")"),
+    }
+}
+
+fn sqlite_comparison(operator: ComparisonOperator) -> Pieces
+    ensures texts { pieces_in result ≡ compared_pieces Dialect.Sqlite false operator }
 {
     match operator {
         ComparisonOperator::Eq => two("(", " = ", ")"),
@@ -119,21 +145,8 @@ fn plain_comparison(operator: ComparisonOperator) -> Pieces
     }
 }
 
-fn postgres_comparison(operator: ComparisonOperator) -> Pieces
-    ensures texts { pieces_in result ≡ of_texts Dialect.PostgreSql (comparison_sign operator) }
-{
-    match operator {
-        ComparisonOperator::Eq => two("(", " COLLATE \"C\" = ", ")"),
-        ComparisonOperator::Ne => two("(", " COLLATE \"C\" <> ", ")"),
-        ComparisonOperator::Gt => two("(", " COLLATE \"C\" > ", ")"),
-        ComparisonOperator::Ge => two("(", " COLLATE \"C\" >= ", ")"),
-        ComparisonOperator::Lt => two("(", " COLLATE \"C\" < ", ")"),
-        ComparisonOperator::Le => two("(", " COLLATE \"C\" <= ", ")"),
-    }
-}
-
-fn sqlite_comparison(operator: ComparisonOperator) -> Pieces
-    ensures texts { pieces_in result ≡ of_texts Dialect.Sqlite (comparison_sign operator) }
+fn sqlite_text_comparison(operator: ComparisonOperator) -> Pieces
+    ensures texts { pieces_in result ≡ compared_pieces Dialect.Sqlite true operator }
 {
     match operator {
         ComparisonOperator::Eq => two("(", " COLLATE BINARY = ", ")"),
@@ -148,11 +161,16 @@ fn sqlite_comparison(operator: ComparisonOperator) -> Pieces
 fn sameness_pieces(dialect: Dialect, value_type: SqlType) -> Pieces
     ensures texts { pieces_in result ≡ sameness_texts dialect value_type }
 {
-    match (dialect, value_type.is_text()) {
-        (Dialect::PostgreSql, false) => two("(", " IS NOT DISTINCT FROM ", ")"),
-        (Dialect::PostgreSql, true) => two("(", " COLLATE \"C\" IS NOT DISTINCT FROM ", ")"),
-        (Dialect::Sqlite, false) => two("(", " IS ", ")"),
-        (Dialect::Sqlite, true) => two("(", " COLLATE BINARY IS ", ")"),
+    match dialect {
+        Dialect::PostgreSql => match value_type {
+            SqlType::Whole => two("((", ")::numeric IS NOT DISTINCT FROM (", ")::numeric)"),
+            SqlType::Text => two("(", " COLLATE \"C\" IS NOT DISTINCT FROM ", ")"),
+            _ => two("(", " IS NOT DISTINCT FROM ", ")"),
+        },
+        Dialect::Sqlite => match value_type.is_collated(dialect) {
+            true => two("(", " COLLATE BINARY IS ", ")"),
+            false => two("(", " IS ", ")"),
+        },
     }
 }
 
@@ -199,19 +217,39 @@ fn wide_pieces(dialect: Dialect, operator: ArithmeticOperator) -> Pieces
     }
 }
 
-/// What lies outside 64 bits is a real number in SQLite, which may be rounded to a bound of them.
+fn bits_pieces(dialect: Dialect) -> Pieces
+    ensures texts { pieces_in result ≡ bits_texts dialect }
+{
+    match dialect {
+        Dialect::PostgreSql => two("((", ")::bigint & (", ")::bigint)"),
+        Dialect::Sqlite => two("(", " & ", ")"),
+    }
+}
+
+/// In PostgreSQL the number and the bounds are of one type. What lies outside 64 bits is a real number in SQLite, which
+/// may be rounded to a bound of them.
 fn range_pieces(dialect: Dialect, prim: Prim) -> Pieces
     ensures texts { pieces_in result ≡ range_texts dialect prim }
 {
-    match prim {
-        Prim::Int16 => one("(", " BETWEEN -32768 AND 32767)"),
-        Prim::Int32 => one("(", " BETWEEN -2147483648 AND 2147483647)"),
-        _ => match dialect {
-            Dialect::PostgreSql => one(
-                "(",
-                " BETWEEN -9223372036854775808 AND 9223372036854775807)",
+    match dialect {
+        Dialect::PostgreSql => match prim {
+            Prim::Int16 => one(
+                "((",
+                ")::numeric BETWEEN (-32768)::numeric AND 32767::numeric)",
             ),
-            Dialect::Sqlite => one(
+            Prim::Int32 => one(
+                "((",
+                ")::numeric BETWEEN (-2147483648)::numeric AND 2147483647::numeric)",
+            ),
+            _ => one(
+                "((",
+                ")::numeric BETWEEN (-9223372036854775808)::numeric AND 9223372036854775807::numeric)",
+            ),
+        },
+        Dialect::Sqlite => match prim {
+            Prim::Int16 => one("(", " BETWEEN -32768 AND 32767)"),
+            Prim::Int32 => one("(", " BETWEEN -2147483648 AND 2147483647)"),
+            _ => one(
                 "(CASE typeof(",
                 ") WHEN 'integer' THEN 1 WHEN 'real' THEN 0 END)",
             ),
@@ -223,12 +261,13 @@ fn fault_code_pieces(dialect: Dialect, carrier: Carrier) -> Pieces
     ensures texts { pieces_in result ≡ fault_code_texts dialect carrier }
 {
     match (dialect, carrier) {
-        (Dialect::PostgreSql, Carrier::Number) => {
-            one("(CASE ", " WHEN 'NaN' THEN 3 WHEN 'Infinity' THEN 4 END)")
-        }
+        (Dialect::PostgreSql, Carrier::Number) => one(
+            "(CASE ",
+            " WHEN 'NaN'::numeric THEN 3 WHEN 'Infinity'::numeric THEN 4 END)",
+        ),
         (Dialect::PostgreSql, Carrier::Text) => one(
             "(CASE ",
-            " WHEN 'O' THEN 3 WHEN 'D' THEN 4 END)",
+            " WHEN 'O'::text THEN 3 WHEN 'D'::text THEN 4 END)",
         ),
         (Dialect::Sqlite, _) => one("(CASE ", " WHEN x'03' THEN 3 WHEN x'04' THEN 4 END)"),
     }
@@ -246,7 +285,7 @@ fn fault_pieces(dialect: Dialect, carrier: Carrier) -> Pieces
         }
         (Dialect::PostgreSql, Carrier::Text) => one(
             "(CASE ",
-            " WHEN 3 THEN 'O' WHEN 4 THEN 'D' END)",
+            " WHEN 3 THEN 'O'::text WHEN 4 THEN 'D'::text END)",
         ),
         (Dialect::Sqlite, _) => one("(CASE ", " WHEN 3 THEN x'03' WHEN 4 THEN x'04' END)"),
     }
@@ -256,8 +295,14 @@ fn unfault_pieces(dialect: Dialect, carrier: Carrier) -> Pieces
     ensures texts { pieces_in result ≡ unfault_texts dialect carrier }
 {
     match (dialect, carrier) {
-        (Dialect::PostgreSql, Carrier::Number) => one("NULLIF(NULLIF(", ", 'NaN'), 'Infinity')"),
-        (Dialect::PostgreSql, Carrier::Text) => one("substr(NULLIF(NULLIF(", ", 'O'), 'D'), 2)"),
+        (Dialect::PostgreSql, Carrier::Number) => one(
+            "NULLIF(NULLIF(",
+            ", 'NaN'::numeric), 'Infinity'::numeric)",
+        ),
+        (Dialect::PostgreSql, Carrier::Text) => one(
+            "substr(NULLIF(NULLIF(",
+            ", 'O'::text), 'D'::text), 2)",
+        ),
         (Dialect::Sqlite, _) => one("NULLIF(NULLIF(", ", x'03'), x'04')"),
     }
 }
@@ -268,7 +313,7 @@ fn carried_pieces(dialect: Dialect, carrier: Carrier) -> Pieces
 {
     match (dialect, carrier) {
         (Dialect::PostgreSql, Carrier::Number) => one("(", ")::numeric"),
-        (Dialect::PostgreSql, Carrier::Text) => one("('v' || ", ")"),
+        (Dialect::PostgreSql, Carrier::Text) => one("('v'::text || ", ")"),
         (Dialect::Sqlite, _) => one("(", ")"),
     }
 }

@@ -53,7 +53,7 @@ fn write_arrow(
     out.push_str(arrow)?;
     out.push_str(" '")?;
     out.push_str(name_of(table, step))?;
-    out.push('\'')
+    out.push_str("'::text")
 }
 
 /// Writes steps as PostgreSQL has them.
@@ -82,7 +82,7 @@ fn write_scalar_arrows(
             write_arrows(out, table, before)?;
             write_arrow(out, table, last, "->>")
         }
-        None => out.push_str(" #>> '{}'"),
+        None => out.push_str(" #>> '{}'::text[]"),
     }
 }
 

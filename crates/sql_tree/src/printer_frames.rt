@@ -96,7 +96,8 @@ pub(crate) fn write_after(
         SqlNode::Let { level, count } => write_binding(out, dialect, level, count, frame.done),
         SqlNode::Exists { .. } => out.push_str("))"),
         SqlNode::Among { count, value_type } => {
-            write_item(out, dialect, value_type.is_text(), count, frame.done)
+            let collated = value_type.is_collated(dialect);
+            write_item(out, dialect, collated, count, frame.done)
         }
         SqlNode::Decided { quantifier, level } => write_decisions(out, dialect, quantifier, level),
         SqlNode::Least { path, level } => {
@@ -144,26 +145,26 @@ fn write_binding(
 fn write_item(
     out: &mut String,
     dialect: Dialect,
-    of_texts: bool,
+    collated: bool,
     count: usize,
     done: usize,
 ) -> Result<(), AllocError>
     requires some { 0 < done }
-    requires few { done < length (list_pieces dialect of_texts count) }
+    requires few { done < length (list_pieces dialect collated count) }
     ensures { OnOk result (string_bytes out.new
-        ≡ string_bytes out.old ++ piece_at (list_pieces dialect of_texts count) done) }
+        ≡ string_bytes out.old ++ piece_at (list_pieces dialect collated count) done) }
 {
     if done == 1 {
-        write_collation(out, dialect, of_texts)?;
+        write_collation(out, dialect, collated)?;
         return out.push_str(" IN (");
     }
     out.push_str(if done <= count { ", " } else { "))" })
 }
 
-fn write_collation(out: &mut String, dialect: Dialect, of_texts: bool) -> Result<(), AllocError>
-    ensures { OnOk result (string_bytes out.new ≡ string_bytes out.old ++ collation dialect of_texts) }
+fn write_collation(out: &mut String, dialect: Dialect, collated: bool) -> Result<(), AllocError>
+    ensures { OnOk result (string_bytes out.new ≡ string_bytes out.old ++ collation dialect collated) }
 {
-    if !of_texts {
+    if !collated {
         return Ok(());
     }
     out.push_str(match dialect {
@@ -209,16 +210,17 @@ fn write_decision(
     }
 }
 
-/// Writes a table and what stands before its first code. In PostgreSQL an offset in a text is an integer of 32 bits.
+/// Writes a table and what stands before its first code. In PostgreSQL it is a text, and an offset in one is an integer
+/// of 32 bits.
 fn write_table(out: &mut String, dialect: Dialect, table: LookUp) -> Result<(), AllocError>
     ensures { OnOk result (string_bytes out.new
         ≡ string_bytes out.old ++ piece_at (pieces_for_codes dialect table (arity_of_table table)) 0) }
 {
     let digits = table.digits();
-    write!(out, "CAST(substr('{digits}', ")?;
+    write!(out, "CAST(substr('{digits}'")?;
     out.push_str(match dialect {
-        Dialect::PostgreSql => "CAST(",
-        Dialect::Sqlite => "",
+        Dialect::PostgreSql => "::text, CAST(",
+        Dialect::Sqlite => ", ",
     })?;
     out.push_str(if table.arity() == 2 { "5 * " } else { "" })
 }

@@ -1,3 +1,4 @@
+use super::dialect::Dialect;
 use super::look_up::LookUp;
 use csdl_schema::EnumId;
 use edm_values::Prim;
@@ -23,13 +24,15 @@ pub enum SqlType {
 
 impl SqlType {
     ghost use Rattle.std.specs.Prelude.{◌≡◌};
-    ghost use Rattle.sql_tree.specs.FixedPieces.{is_text};
+    ghost use Rattle.sql_tree.specs.FixedPieces.{is_collated};
 
-    pub(crate) fn is_text(self) -> bool
-        ensures { result ≡ is_text self }
+    /// Whether its values are compared as texts: in SQLite dates, instants and Guids are texts too.
+    pub(crate) fn is_collated(self, dialect: Dialect) -> bool
+        ensures { result ≡ is_collated dialect self }
     {
-        match self {
-            SqlType::Text => true,
+        match (dialect, self) {
+            (_, SqlType::Text) => true,
+            (Dialect::Sqlite, SqlType::Date | SqlType::Instant | SqlType::Guid) => true,
             _ => false,
         }
     }

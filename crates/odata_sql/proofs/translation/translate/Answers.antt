@@ -9,6 +9,7 @@ use Rattle.edm_values.specs.MomentParts.{IsFourDigitYear, IsOffset}
 use Rattle.sql_tree.specs.TableModel.{TableModel, storage_in}
 use Rattle.odata_sql.specs.Conditions.{IsItsCode, KeepsIt}
 use Rattle.odata_sql.specs.Translation.{Says}
+use Rattle.odata_sql.specs.Nesting.{ExceedsLevels}
 use Rattle.odata_sql.specs.private.Refused.{IsRefused}
 use Rattle.odata_sql.specs.declared.translation.Statement.{Statement}
 use Rattle.odata_sql.proofs.StatementAnswers.{memory_is_no_column, memory_is_no_nul, own_table, refused_depth, refused_no_column, refused_no_nul}
@@ -78,6 +79,9 @@ returns-clause-fault c =
     subst (λ (table : TableModel). IfSome c.in_ok-fault_of.field-0 (λ (s : Statement). Says c.args.checked.now c.args.now.now c.args.dialect table s FaultsIt))
     (own_table c.args.checked.now c.schema.result.now c.filtered_type.result (storage_in c.args.storage) c.schema.ensures c.filtered_type.ensures.same) c.in_ok-fault_of.ensures.some
 
+pub returns-clause-levels : goal.returns-clause-levels
+returns-clause-levels c = λ exceeds. let both = c.in_ok-exceeds_levels.ensures.1 (subst ExceedsLevels (sym c.nodes.ensures.same) exceeds) in absurd (cc)
+
 pub returns-clause-can_fault : goal.returns-clause-can_fault
 returns-clause-can_fault c = c.in_ok-fault_of.ensures.can
 
@@ -95,15 +99,34 @@ returns-then-not-has_columns-clause-nul c = (λ is. absurd (cc), λ bound. absur
 pub returns-then-not-has_columns-clause-no_column : goal.returns-then-not-has_columns-clause-no_column
 returns-then-not-has_columns-clause-no_column c = (λ is. ((c.is_nul_free.ensures.0 c.if-not-is_nul_free.false), λ all. let both : true ≡ false = sym (c.has_columns.ensures.1 all) ∙ c.if-not-has_columns.true in cc), λ missing. refl)
 
-pub returns-in_err-ranges-clause-nul : goal.returns-in_err-ranges-clause-nul
-returns-in_err-ranges-clause-nul c =
+pub returns-in_err-exceeds_levels-clause-nul : goal.returns-in_err-exceeds_levels-clause-nul
+returns-in_err-exceeds_levels-clause-nul c =
     let exit = err_from_is_err_and c.from_residual.result c.from_residual.ensures.1 in
     memory_is_no_nul c.args.checked.now c.args.now.now c.args.dialect (storage_in c.args.storage) (c.is_nul_free.ensures.0 c.if-not-is_nul_free.false) (c.has_columns.ensures.0 c.if-not-has_columns.false) c.from_residual.result exit.0 exit.1 exit.2
 
-pub returns-in_err-ranges-clause-no_column : goal.returns-in_err-ranges-clause-no_column
-returns-in_err-ranges-clause-no_column c =
+pub returns-in_err-exceeds_levels-clause-no_column : goal.returns-in_err-exceeds_levels-clause-no_column
+returns-in_err-exceeds_levels-clause-no_column c =
     let exit = err_from_is_err_and c.from_residual.result c.from_residual.ensures.1 in
     memory_is_no_column c.args.checked.now c.args.now.now c.args.dialect (storage_in c.args.storage) (c.is_nul_free.ensures.0 c.if-not-is_nul_free.false) (c.has_columns.ensures.0 c.if-not-has_columns.false) c.from_residual.result exit.0 exit.1 exit.2
+
+pub returns-then-branch-clause-nul : goal.returns-then-branch-clause-nul
+returns-then-branch-clause-nul c = (λ is. absurd (cc), λ bound. absurd (bound (c.is_nul_free.ensures.0 c.if-not-is_nul_free.false)))
+
+pub returns-then-branch-clause-no_column : goal.returns-then-branch-clause-no_column
+returns-then-branch-clause-no_column c = (λ is. absurd (cc), λ missing. absurd (missing.1 (c.has_columns.ensures.0 c.if-not-has_columns.false)))
+
+pub returns-then-branch-clause-too_deep : goal.returns-then-branch-clause-too_deep
+returns-then-branch-clause-too_deep c = λ is. inl (subst ExceedsLevels c.nodes.ensures.same (c.in_ok-exceeds_levels.ensures.0 c.if-branch.true))
+
+pub returns-in_err-ranges-clause-nul : goal.returns-in_err-ranges-clause-nul
+returns-in_err-ranges-clause-nul c =
+    let exit = err_from_is_err_and c.from_residual-in_err-ranges.result c.from_residual-in_err-ranges.ensures.1 in
+    memory_is_no_nul c.args.checked.now c.args.now.now c.args.dialect (storage_in c.args.storage) (c.is_nul_free.ensures.0 c.if-not-is_nul_free.false) (c.has_columns.ensures.0 c.if-not-has_columns.false) c.from_residual-in_err-ranges.result exit.0 exit.1 exit.2
+
+pub returns-in_err-ranges-clause-no_column : goal.returns-in_err-ranges-clause-no_column
+returns-in_err-ranges-clause-no_column c =
+    let exit = err_from_is_err_and c.from_residual-in_err-ranges.result c.from_residual-in_err-ranges.ensures.1 in
+    memory_is_no_column c.args.checked.now c.args.now.now c.args.dialect (storage_in c.args.storage) (c.is_nul_free.ensures.0 c.if-not-is_nul_free.false) (c.has_columns.ensures.0 c.if-not-has_columns.false) c.from_residual-in_err-ranges.result exit.0 exit.1 exit.2
 
 pub returns-in_err-outcome_of-clause-nul : goal.returns-in_err-outcome_of-clause-nul
 returns-in_err-outcome_of-clause-nul c =

@@ -1,5 +1,5 @@
 use Rattle.std.proofs.Common.{◌≡◌, ◌<◌, ◌+◌, ◌^◌, length, ap, subst, arith}
-use Rattle.sql_tree.specs.FixedPieces.{is_text}
+use Rattle.sql_tree.specs.FixedPieces.{is_collated}
 use Rattle.sql_tree.specs.NodePieces.{let_pieces, list_pieces, node_pieces}
 use Rattle.sql_tree.specs.TreeText.{CountsFit}
 use Rattle.sql_tree.specs.declared.sql_node.SqlNode.{SqlNode}
@@ -21,7 +21,7 @@ returns-in-Let c = λ table paths fit some.
 pub returns-in-Among : goal.returns-in-Among
 returns-in-Among c = λ table paths fit some.
     let dialect = c.args.dialect in
-    let texts = is_text c.in-Among.value_type in
+    let texts = is_collated dialect c.in-Among.value_type in
     let count = c.in-Among.count in
     let is = c.in-Among.is in
     let fits : count + 1 < 2 ^ 64 = subst CountsFit is fit in

@@ -21,7 +21,7 @@ returns c =
       | in-PostgreSql w ↦ ap (λ b. b.now) w.push_str-is ∙ ap (λ (d : Dialect). place_cast d) (sym w.in-PostgreSql.is)
       | in-Sqlite w ↦ ap (λ b. b.now) w.push_str-is ∙ ap (λ (d : Dialect). place_cast d) (sym w.in-Sqlite.is)
     ] in
-    let begun = joined before (string_bytes c.write.new.self) (string_bytes c.push_str.new.self) (codes "CAST(substr('" ++ (digits ++ codes "', ")) place (digit_start dialect table)
+    let begun = joined before (string_bytes c.write.new.self) (string_bytes c.push_str.new.self) (codes "CAST(substr('" ++ (digits ++ codes "'")) place (digit_start dialect table)
     c.in_ok-push_str.ensures.bytes c.in_ok-write.ensures.bytes (digits_joined dialect table digits place c.digits-digits.ensures place_is) in
     let start : digit_start dialect table ++ rest ≡ piece_at (pieces_for_codes dialect table (arity_of_table table)) 0 = elim c.if-arity-eq2.branch [
       | then-arity-eq2 w ↦ code_start dialect table rest (λ two. ap (λ b. b.now) w.push_str-is) (λ other. absurd (other (sym c.arity.ensures ∙ w.if-arity-eq2.true)))
