@@ -113,7 +113,7 @@ fn fill_line(
 }
 
 /// Fills a row with the object that is the whole line.
-fn fill_row(cache: &mut Cache, context: &ReadContext<'_>, row: &mut Value) -> bool
+pub(crate) fn fill_row(cache: &mut Cache, context: &ReadContext<'_>, row: &mut Value) -> bool
     requires context { IsContext context.now }
     requires plan { IsPlanOf context.now.schema.now context.now.plan.now }
     requires first { HasFirstType context.now.plan.now context.now.types.now }

@@ -3,6 +3,7 @@
 #![tactic(auto)]
 
 mod absent_slots;
+mod first_row;
 mod held_schema;
 mod kept_leaf;
 mod kept_tree;

@@ -5,8 +5,6 @@ ghost use Rattle.edm_rows.specs.RowReading.{IsLineBut};
 ghost use Rattle.edm_row_plans.specs.Plans.{IsPlanOf};
 ghost use Rattle.edm_rows.specs.private.Passed.{IsRowValue};
 ghost use Rattle.json_room.specs.LexemesAt.{PassesSpaces};
-ghost use Rattle.csdl_schema.specs.SchemaModel.{properties_at};
-ghost use Rattle.edm_row_plans.specs.Expanded.{slots_at};
 ghost use Rattle.edm_rows.specs.private.HeldRows.{HasFirstType, IsTakenWhole, IsTakenWithin};
 ghost use Rattle.edm_rows.specs.private.HeldRows.{ReadsRowAt, TakesMembers, TakesObject};
 ghost use Rattle.edm_rows.specs.RowItems.{ReadsItem};
@@ -16,10 +14,12 @@ ghost use Rattle.edm_rows.specs.private.Contexts.{IsContext};
 ghost use Rattle.edm_rows.specs.HeldSchema.{schema_in};
 ghost use Rattle.edm_rows.specs.RowsOfType.{IsLeftOut, IsSameButKept, IsSameReader, names_unkept, row_held, sifted};
 
+use super::first_row::copy_without_items;
 use super::held_schema::HeldSchema;
 use super::kept_leaf::Taken;
 use super::kept_value::take_members;
 use super::known_texts::{Cache, KnownTexts};
+use super::layout_reader::fill_row;
 use super::passed_value::ReadContext;
 use super::row_layout::types_of;
 use super::row_types::{DEPTH, RowType};
@@ -28,7 +28,7 @@ use csdl_schema::Schema;
 use edm_entities::Entity;
 use edm_row_plans::RowPlan;
 use edm_values::{Sieve, Value};
-use json_room::{RoomyLine, front_text, has_room, past_blanks};
+use json_room::{RoomyLine, copy_with_room, front_text, has_room, past_blanks};
 use seen_slots::{FewSlots, ManySlots};
 use std::alloc::Global;
 use std::marker::Model;
@@ -149,7 +149,8 @@ impl<'s> TypeRows<'s> {
         self.is_ready
     }
 
-    /// Fills the row of that line from here on, if it is one. Where rows are not read so, it stays without one.
+    /// Fills the row of that line from here on, if it is read as one. Its collections are empty until a line is read.
+    /// Where rows are not read so, it stays without one.
     #[inline(never)]
     pub fn begin(&mut self, line: &[u8])
         ensures { IsSameReader self.old self.new }
@@ -157,14 +158,28 @@ impl<'s> TypeRows<'s> {
         if self.types.len() == 0 {
             return;
         }
-        let alloc = self.cache.alloc;
-        match row_of_line(alloc, self.schema.schema(), &self.plan, line) {
-            Some(row) => {
-                self.row = row;
-                self.is_ready = true;
-            }
-            None => {}
+        let mut copy = Vec::new(self.cache.alloc);
+        if !copy_without_items(line, &mut copy) {
+            return;
         }
+        let short = copy.as_slice();
+        let mut room = Vec::new(self.cache.alloc);
+        if !copy_with_room(short, &mut room) {
+            return;
+        }
+        let bytes = room.as_slice();
+        let Some(text) = front_text(bytes, short.len(), false) else {
+            return;
+        };
+        let context = ReadContext {
+            schema: self.schema.schema(),
+            plan: &self.plan,
+            types: self.types.as_slice(),
+            known: &self.known,
+            line: RoomyLine::new(text, bytes),
+            depth: DEPTH - 1,
+        };
+        self.is_ready = fill_row(&mut self.cache, &context, &mut self.row);
     }
 
     /// Reads the line of that length at the front of the bytes into the row.
@@ -283,20 +298,6 @@ impl<'s> TypeRows<'s> {
             &self.plan.expansion,
             &self.row,
         )
-    }
-}
-
-/// The value of a line's row, which is read through a tree; none where it is not a row.
-fn row_of_line(alloc: Global, schema: &Schema, plan: &RowPlan, line: &[u8]) -> Option<Value>
-    ensures { IfSome result
-        (IsRowValue (slots_at schema.now plan.now.expansion (Some 0)) (properties_at schema.now plan.now.type_id)) }
-{
-    let Ok(text) = str::from_utf8(line) else {
-        return None;
-    };
-    match serde_json::Value::from_str(alloc, text) {
-        Ok(json) => Entity::value_from_json(alloc, schema, plan.type_id, &plan.expansion, &json),
-        Err(_) => None,
     }
 }
 
