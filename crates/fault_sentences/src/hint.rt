@@ -1,6 +1,7 @@
-ghost use Rattle.std.specs.Prelude.{◌≡◌, ◌-◌, ◌<◌, ◌==◌, drop, length, slice_index, take};
-ghost use Rattle.fault_sentences.specs.Hint.{begins_date_time, begins_number, character_hint, hint_of, is_symbol};
-ghost use Rattle.fault_sentences.specs.Hint.{is_typed_literal, syntax_hint, text_hint, typing_hint};
+ghost use Rattle.std.specs.Prelude.{◌≡◌, ◌-◌, ◌<◌, ◌==◌, ◌||◌, drop, length, slice_index, take};
+ghost use Rattle.fault_sentences.specs.Hint.{begins_date_time, begins_number, character_hint, hint_of, is_option_name};
+ghost use Rattle.fault_sentences.specs.Hint.{is_escape, is_suffixed, is_suffix_letter, is_symbol, is_typed_literal};
+ghost use Rattle.fault_sentences.specs.Hint.{number_hint, percent_hint, plus_hint, syntax_hint, text_hint, typing_hint};
 
 use super::fault_class::FaultClass;
 use super::report::Report;
@@ -10,6 +11,16 @@ use super::report::Report;
 pub enum Hint {
     /// A `+` for a space.
     Plus,
+    /// A `+` with a space beside it, for `add`.
+    Sum,
+    /// A `*` for `mul`.
+    Product,
+    /// A `%` for `mod`.
+    Remainder,
+    /// An `@`: a parameter alias.
+    Alias,
+    /// `$filter=` before the filter.
+    OptionName,
     /// `&&`, `||`, `==` and the like for words.
     Symbol,
     /// A `"` around a text.
@@ -22,6 +33,8 @@ pub enum Hint {
     Fraction,
     /// A date and time without `Z` or an offset.
     Offset,
+    /// A number with a letter after it, as `5L`.
+    Suffix,
     /// `datetime'..'`, `guid'..'` and the like.
     TypedLiteral,
     /// `substringof` of OData 2.
@@ -53,6 +66,16 @@ fn is_symbol(byte: u8) -> bool
     ensures { result ≡ is_symbol byte }
 {
     byte == b'!' || byte == b'&' || byte == b'<' || byte == b'=' || byte == b'>' || byte == b'|'
+}
+
+/// The byte at the offset, or 0 if there is none.
+fn byte_at(bytes: &[u8], offset: usize) -> u8
+    ensures { result ≡ slice_index bytes.now offset }
+{
+    match bytes.get(offset) {
+        Some(byte) => *byte,
+        None => 0,
+    }
 }
 
 /// The first byte, or 0 if there is none.
@@ -87,15 +110,58 @@ fn is_typed_literal(before: &[u8], at: &[u8]) -> bool
     is_byte_at(at, 0, b'\'') && last_byte(before).is_ascii_alphabetic()
 }
 
-fn character_hint(byte: u8) -> Option<Hint>
-    ensures { result ≡ character_hint byte }
+/// Whether two hexadecimal digits follow the first byte.
+fn is_escape(at: &[u8]) -> bool
+    ensures { result ≡ is_escape at.now }
 {
+    byte_at(at, 1).is_ascii_hexdigit() && byte_at(at, 2).is_ascii_hexdigit()
+}
+
+/// Of a `+`: between spaces it adds.
+fn plus_hint(before: &[u8], at: &[u8]) -> Hint
+    ensures { result ≡ plus_hint before.now at.now }
+{
+    if last_byte(before) == b' ' || byte_at(at, 1) == b' ' {
+        Hint::Sum
+    } else {
+        Hint::Plus
+    }
+}
+
+/// Of a `%`: before two digits it is an escape.
+fn percent_hint(at: &[u8]) -> Hint
+    ensures { result ≡ percent_hint at.now }
+{
+    if is_escape(at) {
+        Hint::EscapedTwice
+    } else {
+        Hint::Remainder
+    }
+}
+
+/// Whether these bytes are the name of the filter's query option.
+fn is_option_name(name: &[u8]) -> bool
+    ensures { result ≡ is_option_name name.now }
+{
+    name.eq_ignore_ascii_case(b"$filter") || name.eq_ignore_ascii_case(b"filter")
+}
+
+fn character_hint(before: &[u8], at: &[u8]) -> Option<Hint>
+    ensures { result ≡ character_hint before.now at.now }
+{
+    let byte = first_byte(at);
     if byte == b'+' {
-        Some(Hint::Plus)
+        Some(plus_hint(before, at))
     } else if byte == b'"' {
         Some(Hint::DoubleQuote)
     } else if byte == b'%' {
-        Some(Hint::EscapedTwice)
+        Some(percent_hint(at))
+    } else if byte == b'*' {
+        Some(Hint::Product)
+    } else if byte == b'@' {
+        Some(Hint::Alias)
+    } else if byte == b'=' && is_option_name(before) {
+        Some(Hint::OptionName)
     } else if is_symbol(byte) {
         Some(Hint::Symbol)
     } else {
@@ -103,17 +169,44 @@ fn character_hint(byte: u8) -> Option<Hint>
     }
 }
 
-fn text_hint(number: u8, at: &[u8]) -> Option<Hint>
-    ensures { result ≡ text_hint number at.now }
+fn is_suffix_letter(byte: u8) -> bool
+    ensures { result ≡ is_suffix_letter byte }
+{
+    let lower = byte.to_ascii_lowercase();
+    lower == b'd' || lower == b'f' || lower == b'l' || lower == b'm'
+}
+
+/// Whether these bytes are digits with such a letter after them, and have no hyphen.
+fn is_suffixed(run: &[u8]) -> bool
+    ensures { result ≡ is_suffixed run.now }
+{
+    first_byte(run).is_ascii_digit() && is_suffix_letter(last_byte(run)) && !run.contains(&b'-')
+}
+
+/// Of a number, date, moment or Guid that runs on.
+fn number_hint(at: &[u8], size: usize) -> Option<Hint>
+    ensures { result ≡ number_hint at.now size }
+{
+    if begins_date_time(at) {
+        Some(Hint::Offset)
+    } else if is_suffixed(front(at, size)) {
+        Some(Hint::Suffix)
+    } else {
+        None
+    }
+}
+
+fn text_hint(number: u8, before: &[u8], at: &[u8], size: usize) -> Option<Hint>
+    ensures { result ≡ text_hint number before.now at.now size }
 {
     if number == 1 {
-        character_hint(first_byte(at))
+        character_hint(before, at)
     } else if number == 2 {
         Some(Hint::Apostrophe)
     } else if number == 3 && begins_number(at) {
         Some(Hint::Fraction)
-    } else if number == 4 && begins_date_time(at) {
-        Some(Hint::Offset)
+    } else if number == 4 {
+        number_hint(at, size)
     } else {
         None
     }
@@ -173,7 +266,7 @@ pub fn hint_about(report: &Report<'_>) -> Option<Hint>
     let at = rest(bytes, report.span.start);
     let size = report.span.stop.saturating_sub(report.span.start);
     match report.class {
-        FaultClass::Text => text_hint(report.number, at),
+        FaultClass::Text => text_hint(report.number, before, at, size),
         FaultClass::Syntax => syntax_hint(report.number, before, at),
         FaultClass::Typing => typing_hint(report.number, at, size),
         _ => None,

@@ -11,12 +11,18 @@ use std::alloc::{AllocError, Global};
 fn hint_text(hint: Hint) -> &'static str {
     match hint {
         Hint::Plus => "In a URL, write a space as %20: a + is a plus sign.",
+        Hint::Sum => "Addition is add, as in 1 add 2.",
+        Hint::Product => "Multiplication is mul, as in 1 mul 2.",
+        Hint::Remainder => "A remainder is mod, as in 3 mod 2.",
+        Hint::Alias => "Parameter aliases are not supported: write the value itself.",
+        Hint::OptionName => "The filter is what follows $filter=: leave that out.",
         Hint::Symbol => "Operators are words: and, or, not, eq, ne, gt, ge, lt, le.",
         Hint::DoubleQuote => "Texts stand between apostrophes, as in 'a'.",
         Hint::EscapedTwice => "The text has escapes in it: it may have been escaped twice.",
         Hint::Apostrophe => "In a text, write an apostrophe twice; in a URL, write & as %26.",
         Hint::Fraction => "Numbers with a fraction or an exponent are not supported.",
         Hint::Offset => "A date and time ends in Z or an offset, as in 2020-01-01T00:00:00Z.",
+        Hint::Suffix => "Write a number without a letter after it.",
         Hint::TypedLiteral => {
             "Write the value without the name of its type; dates and GUIDs without apostrophes too."
         },

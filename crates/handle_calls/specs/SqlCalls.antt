@@ -72,8 +72,8 @@ IsNoNow filter line Fault.NotAMoment = (now : MomentParts) → ¬ MomentValue li
 IsNoNow filter line Fault.MomentNeeded = (line ≡ []) × UsesNow (tree_of_filter filter)
 IsNoNow filter line fault = ⊥
 
--- a literal or a name has U+0000; a tree that says them nests too deeply for the engine, and the filter is not small; or
--- memory ends
+-- a literal or a name has U+0000; the filter nests over 100 levels, or a tree that says them nests too deeply for the
+-- engine, and the filter is not small; or memory ends
 abbrev pub IsNoConditions : Filter → StorageModel → Dialect → MomentParts → Fault → Type 0
 IsNoConditions filter storage dialect now Fault.Unsayable = ¬ IsNulFree filter storage
 IsNoConditions filter storage dialect now Fault.TooDeep = IsTooDeep filter now dialect

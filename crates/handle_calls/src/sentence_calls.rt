@@ -1,13 +1,15 @@
 //! Sentences for people about faults.
-ghost use Rattle.std.specs.Prelude.{◌≡◌, IfErr, IsTrue, IsUtf8, MatchResult};
+ghost use Rattle.std.specs.Prelude.{◌≡◌, IfErr, IfOk, IsTrue, IsUtf8, MatchResult, is_some};
+ghost use Rattle.fault_sentences.specs.Numbers.{is_known};
 ghost use Rattle.handle_calls.specs.Sentences.{IsNoSentence, IsNoSentenceFor, IsSentenceFor, class_under, has_fault};
 
 use crate::answer::Answer;
 use crate::call_fault::Fault;
-use crate::handle::Handle;
+use crate::handle::{Handle, TypeHandle};
 use fault_sentences::{FaultClass, Report, fault_sentence};
+use filter_hints::{FilterOf, advise};
 use odata_text::Span;
-use std::alloc::Global;
+use std::alloc::{AllocError, Global};
 
 /// What is at fault under a status.
 fn class_of_status(status: u32) -> Option<FaultClass>
@@ -62,10 +64,36 @@ fn fault_subject(class: FaultClass, text: &[u8]) -> Result<&str, Fault>
     }
 }
 
-/// A sentence about a fault, which names the type where it has a name.
+/// The name of a type.
+fn name_of(held: &TypeHandle) -> Option<&str> {
+    held.schema.type_name(held.id)
+}
+
+/// The sentence about a fault, with what the type shows of what was meant.
+fn sentence_about(
+    alloc: Global,
+    held: Option<&TypeHandle>,
+    report: &Report<'_>,
+) -> Result<Option<String>, AllocError>
+    ensures { IfOk result (λ sentence. is_some sentence ≡ is_known report.now.class report.now.number) }
+{
+    match held {
+        Some(held) => {
+            let filter = FilterOf {
+                schema: &held.schema,
+                id: held.id,
+                report,
+            };
+            advise(alloc, &filter)
+        }
+        None => fault_sentence(alloc, report),
+    }
+}
+
+/// A sentence about a fault, which names the type if there is one.
 pub(crate) fn sentence_of(
     alloc: Global,
-    type_name: Option<&str>,
+    held: Option<&TypeHandle>,
     status: u32,
     fault: &Answer,
     text: &[u8],
@@ -84,9 +112,9 @@ pub(crate) fn sentence_of(
         number,
         span: fault_span(class, fault),
         text: fault_subject(class, text)?,
-        type_name,
+        type_name: held.and_then(name_of),
     };
-    match fault_sentence(alloc, &report) {
+    match sentence_about(alloc, held, &report) {
         Ok(Some(sentence)) => Ok(sentence),
         Ok(None) => Err(Fault::UnknownNumber),
         Err(_) => Err(Fault::Memory),
@@ -105,9 +133,7 @@ pub(crate) fn sentence_for(
         (IsNoSentenceFor handle.now status fault.now.fault text.now) }
 {
     match handle {
-        Handle::Type(held) => {
-            sentence_of(alloc, held.schema.type_name(held.id), status, fault, text)
-        }
+        Handle::Type(held) => sentence_of(alloc, Some(held), status, fault, text),
         _ => Err(Fault::OtherKind),
     }
 }

@@ -1,11 +1,12 @@
 //! The program: words, files, streams and the status. What it does with them is `odata_filter`'s.
 #![tactic(auto)]
 
+use command_hints::refusal_hints;
 use odata_filter::command_line::{Plan, PlanFault};
 use odata_filter::{ReadAllError, plan, read_whole, run};
 use std::fmt::Display;
 use std::fs::File;
-use std::io::{ErrorKind, Read, Stdin};
+use std::io::{ErrorKind, IsTerminal, Read, Stdin};
 use std::process::ExitCode;
 use std::{env, io};
 
@@ -65,6 +66,18 @@ fn schema_bytes(rt: &HostRuntime, name: &str) -> Result<Vec<u8>, ReadAllError> {
     }
 }
 
+/// Says to a person why the filter or the query is refused. A program reads the line that the run has written alone.
+#[inline(never)]
+fn report_hints(rt: &HostRuntime, plan: &Plan<'_>, document: &[u8]) {
+    match refusal_hints(rt.alloc(), plan, document) {
+        Ok(Some(hints)) => {
+            let _ = eprintln!(rt; "{}", hints.as_str());
+        }
+        Ok(None) => {}
+        Err(_) => {}
+    }
+}
+
 /// Opens the rows that the plan names, and carries it out over the bytes of its schema file.
 fn carry_out_over(rt: &HostRuntime, plan: &Plan<'_>, document: &[u8]) -> u8 {
     let (mut out, mut err) = (rt.stdout(), rt.stderr());
@@ -75,7 +88,11 @@ fn carry_out_over(rt: &HostRuntime, plan: &Plan<'_>, document: &[u8]) -> u8 {
         },
         None => Some(Rows::Stdin(rt.stdin())),
     };
-    run(rt.alloc(), plan, document, rows, &mut out, &mut err)
+    let status = run(rt.alloc(), plan, document, rows, &mut out, &mut err);
+    if (status == 1 || status == 2) && err.is_terminal() {
+        report_hints(rt, plan, document);
+    }
+    status
 }
 
 /// Reads the schema file and carries the plan out. What reports a failure comes after what a run calls, in the program

@@ -1,0 +1,212 @@
+//! What to write for a name that is no property.
+use crate::advised_sentence::Advice;
+use crate::called_function::called_function;
+use crate::edit::{Edit, part};
+use crate::filter_of::FilterOf;
+use crate::near_names::NearNames;
+use crate::operand_type::{OperandType, operand_type};
+use crate::standard_names::is_unsupported_function;
+use crate::syntax_tree::{lambda_parts, last_child, next_around};
+use crate::trial::mends;
+use csdl_schema::{Schema, TypeId};
+use odata_syntax::{SyntaxKind, SyntaxNode};
+use odata_text::Span;
+use std::alloc::{AllocError, Global};
+
+/// The names of a type that are near to a mistyped one.
+fn near_properties<'n>(schema: &'n Schema, id: TypeId, name: &'n str) -> NearNames<'n> {
+    let mut near = NearNames::new(name);
+    for slot in 0..schema.slots(id) {
+        near.offer(schema.slot_name(id, slot));
+    }
+    near
+}
+
+/// A question whether one of the names was meant.
+pub fn near_in_words(alloc: Global, near: &NearNames<'_>) -> Result<Option<String>, AllocError> {
+    match (near.at(0), near.at(1), near.at(2)) {
+        (Some(one), Some(two), Some(three)) => {
+            Ok(Some(format!(in alloc; "Did you mean '{one}', '{two}' or '{three}'?")?))
+        }
+        (Some(one), Some(two), None) => Ok(Some(format!(in alloc;
+            "Did you mean '{one}' or '{two}'?"
+        )?)),
+        (Some(one), None, _) => Ok(Some(format!(in alloc; "Did you mean '{one}'?")?)),
+        (None, _, _) => Ok(None),
+    }
+}
+
+/// The edit's text, if it mends the filter.
+fn mended(alloc: Global, filter: &FilterOf<'_>, edit: Edit) -> Result<Option<String>, AllocError> {
+    if mends(alloc, filter, &edit)? {
+        Ok(Some(edit.text))
+    } else {
+        Ok(None)
+    }
+}
+
+/// A name after the variable of a lambda expression around it, if that mends the filter.
+fn after_a_variable(
+    alloc: Global,
+    filter: &FilterOf<'_>,
+    nodes: &[SyntaxNode],
+    span: Span,
+) -> Result<Option<String>, AllocError> {
+    let text = filter.report.text;
+    for index in 0..nodes.len() {
+        let (Some((_, body)), Some(lambda)) = (lambda_parts(nodes, index), nodes.get(index)) else {
+            continue;
+        };
+        if body.start <= span.start && span.stop <= body.stop {
+            let path = format!(in alloc; "{}/{}", part(text, lambda.text), part(text, span))?;
+            let found = mended(alloc, filter, Edit { span, text: path })?;
+            if found.is_some() {
+                return Ok(found);
+            }
+        }
+    }
+    Ok(None)
+}
+
+/// The name as a text, if that mends the filter.
+fn as_a_text(
+    alloc: Global,
+    filter: &FilterOf<'_>,
+    span: Span,
+) -> Result<Option<String>, AllocError> {
+    let text = format!(in alloc; "'{}'", part(filter.report.text, span))?;
+    mended(alloc, filter, Edit { span, text })
+}
+
+/// Of a name at the start of a path.
+fn first_name(
+    alloc: Global,
+    filter: &FilterOf<'_>,
+    nodes: &[SyntaxNode],
+    span: Span,
+) -> Result<Option<String>, AllocError> {
+    if let Some(path) = after_a_variable(alloc, filter, nodes, span)? {
+        return Ok(Some(format!(in alloc; "Write {}.", path.as_str())?));
+    }
+    let near = near_properties(filter.schema, filter.id, part(filter.report.text, span));
+    if let Some(question) = near_in_words(alloc, &near)? {
+        return Ok(Some(question));
+    }
+    match as_a_text(alloc, filter, span)? {
+        Some(text) => Ok(Some(format!(in alloc;
+            "Texts stand between apostrophes: write {}.",
+            text.as_str()
+        )?)),
+        None => Ok(None),
+    }
+}
+
+/// A step over a collection: a lambda expression in place of the path, if that mends the filter.
+fn over_members(
+    alloc: Global,
+    filter: &FilterOf<'_>,
+    base: Span,
+    whole: Span,
+) -> Result<Option<String>, AllocError> {
+    let text = filter.report.text;
+    let rest = Span {
+        start: base.stop,
+        stop: whole.stop,
+    };
+    let lambda = format!(in alloc; "{}/any(x:x{})", part(text, base), part(text, rest))?;
+    let span = Span {
+        start: base.start,
+        stop: whole.stop,
+    };
+    match mended(alloc, filter, Edit { span, text: lambda })? {
+        Some(lambda) => Ok(Some(format!(in alloc;
+            "'{}' is a collection: write {}.",
+            part(text, base),
+            lambda.as_str()
+        )?)),
+        None => Ok(Some(format!(in alloc;
+            "'{}' is a collection: any and all look into it.",
+            part(text, base)
+        )?)),
+    }
+}
+
+/// Of a step from the members of a collection; the node around it is rewritten with it.
+fn step_over_members(
+    alloc: Global,
+    filter: &FilterOf<'_>,
+    nodes: &[SyntaxNode],
+    steps: (usize, usize),
+) -> Result<Option<String>, AllocError> {
+    let (index, at) = steps;
+    let (Some(node), Some(base)) = (nodes.get(index), nodes.get(at)) else {
+        return Ok(None);
+    };
+    let whole = match next_around(nodes, index.saturating_add(1), node.span) {
+        Some(around) => nodes.get(around).map_or(node.span, |it| it.span),
+        None => node.span,
+    };
+    over_members(alloc, filter, base.span, whole)
+}
+
+/// Of a step from a base of that type.
+fn step_from(
+    alloc: Global,
+    filter: &FilterOf<'_>,
+    nodes: &[SyntaxNode],
+    steps: (usize, usize),
+    base: &OperandType,
+) -> Result<Option<String>, AllocError> {
+    if base.is_collection {
+        return step_over_members(alloc, filter, nodes, steps);
+    }
+    match (filter.schema.type_named(&base.name), nodes.get(steps.0)) {
+        (Some(id), Some(node)) => {
+            let name = part(filter.report.text, node.text);
+            near_in_words(alloc, &near_properties(filter.schema, id, name))
+        }
+        _ => Ok(None),
+    }
+}
+
+/// Of a step from a base.
+fn step(
+    alloc: Global,
+    filter: &FilterOf<'_>,
+    nodes: &[SyntaxNode],
+    index: usize,
+) -> Result<Option<String>, AllocError> {
+    let Some(at) = last_child(index) else {
+        return Ok(None);
+    };
+    match operand_type(alloc, filter, nodes, at)? {
+        Some(base) => step_from(alloc, filter, nodes, (index, at), &base),
+        None => Ok(None),
+    }
+}
+
+/// What to say of a name that is no property.
+pub fn property_advice(
+    alloc: Global,
+    filter: &FilterOf<'_>,
+    nodes: &[SyntaxNode],
+    index: usize,
+) -> Result<Advice, AllocError> {
+    if let Some(function) = called_function(filter.report.text, nodes, index) {
+        if is_unsupported_function(function) {
+            let sentence = format!(in alloc;
+                "The function '{function}' of OData is not supported here."
+            )?;
+            return Ok(Advice::Instead(sentence));
+        }
+    }
+    let more = match nodes.get(index).map(|node| node.kind) {
+        Some(SyntaxKind::Name) => first_name(alloc, filter, nodes, filter.report.span)?,
+        Some(SyntaxKind::Member) => step(alloc, filter, nodes, index)?,
+        _ => None,
+    };
+    Ok(match more {
+        Some(more) => Advice::After(more),
+        None => Advice::None,
+    })
+}
