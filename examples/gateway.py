@@ -3,10 +3,12 @@
 
 It takes GET for entities of one type. A query goes on to BACKEND (as http://localhost:8000) if its filter is accepted
 and its other options are the standard's or one of OPTION; its canonical text replaces the filter's value, and
-all else stays. Any other query is answered by 400 and the standard's error body, with a caret under the fault.
+all else stays. Any other query is answered by 400 and the standard's error body, with a caret under the fault; so is a
+path that holds a filter. Nothing else of a request goes on, no header and no body.
 The module odfilter is installed, or on PYTHONPATH.
 """
 import json
+import re
 import sys
 from http.server import BaseHTTPRequestHandler, ThreadingHTTPServer
 from urllib import error, parse, request
@@ -18,6 +20,19 @@ SYSTEM_OPTIONS = frozenset(
     "apply compute count deltatoken expand filter format id index orderby schemaversion search select skip skiptoken "
     "top".split()
 )
+
+
+def fault_of_path(target):
+    """What a request is refused for: a path that is still escaped after it was decoded twice may hold a filter."""
+    path = target.partition("?")[0]
+    if path[:1] != "/" or "#" in target or not all("!" <= it <= "~" for it in target):
+        return "The path of a request begins with '/' and is ASCII."
+    decoded = parse.unquote(parse.unquote(path, "latin-1"), "latin-1")
+    if min(decoded) < " " or re.search("%(?![0-9A-Fa-f]{2})", path):
+        return "A path has no control characters, and two digits after each '%'."
+    if "$filter" in decoded.lower() or re.search("%[0-9A-Fa-f]{2}", decoded):
+        return "A filter in a path is not checked here: write it as the option $filter."
+    return None
 
 
 def body_of(code, message, **more):
@@ -39,9 +54,10 @@ class Gateway(BaseHTTPRequestHandler):
     options = frozenset()
 
     def do_GET(self):  # pylint: disable=invalid-name
+        fault = fault_of_path(self.path)
+        if fault is not None:
+            return self.answer(400, body_of("BadPath", fault))
         path, mark, query = self.path.partition("?")
-        if self.path[0] != "/" or "#" in self.path or not all("!" <= it <= "~" for it in self.path):
-            return self.answer(400, body_of("BadPath", "The path of a request begins with '/' and is ASCII."))
         try:
             with self.of_type.check_url(query) as checked:
                 value = checked.value

@@ -1,10 +1,9 @@
 #!/usr/bin/env python3
 """A service of OData over a table: `service.py SCHEMA TYPE SET DATABASE [PORT]`.
 
-DATABASE is a file of SQLite, or the URL (postgresql://..) of a database of PostgreSQL in which postgresql.sql has run.
-Its table `entities` has a row for each entity: a number `id`, and the entity as JSON in `doc`. `GET /SET` returns the
-entities that $filter keeps, without the first $skip and $top at most; with $count=true also how many it keeps. A
-refused query, and a filter that has a fault on some entity, is answered by 400 and the standard's error body.
+DATABASE is a file of SQLite, or the URL (postgresql://..) of a PostgreSQL database in which postgresql.sql has run. Its
+table `entities` has each entity's number in `id` and its JSON in `doc`. `GET /SET` returns what $filter keeps, by $skip
+and $top, and how many by $count. A refused query, over 200 nodes and a fault get 400 and the standard's error body.
 """
 import contextlib
 import json
@@ -36,13 +35,12 @@ def sqlite(path):
 
 @contextlib.contextmanager
 def postgresql(url):
-    """The same of PostgreSQL, whose parameters have numbers; those of its driver have names."""
+    """The same of PostgreSQL, whose driver writes parameters into the text: `-1::bigint` would negate `1::bigint`."""
     import psycopg2
     with contextlib.closing(psycopg2.connect(url)) as connection, connection.cursor() as cursor:
-        connection.set_session(isolation_level="REPEATABLE READ", readonly=True)
-        named = lambda text: re.sub(r"\$(\d+)", r"%(\1)s", text.replace("%", "%%"))
-        by_name = lambda values: {str(number): value for number, value in enumerate(values, 1)}
-        yield lambda text, values=(): cursor.execute(named(text), by_name(values)) or cursor.fetchall()
+        cursor.execute("SET TRANSACTION ISOLATION LEVEL REPEATABLE READ READ ONLY; SET LOCAL jit = off")
+        marked = lambda text: re.sub(r"\$\d+", "(%s)", text.replace("%", "%%"))
+        yield lambda text, values=(): cursor.execute(marked(text), values) or cursor.fetchall()
 
 
 def refuse_fault(rows, outcome, fault):
@@ -62,6 +60,8 @@ class Service(BaseHTTPRequestHandler):
             options[option] = value
         now = time.strftime("%Y-%m-%dT%H:%M:%SZ", time.gmtime())
         checked = self.of_type.check_url(query if "filter" in options else "$filter=true")
+        if checked.node_count > 200:
+            raise Refusal("TooLarge", f"The filter has {checked.node_count} nodes, of at most 200.", target="$filter")
         outcome, keep, fault = checked.sql(self.snapshot.__name__, now, document="doc")
         kept = f"FROM entities AS t WHERE {keep.text}"
         with self.snapshot(self.database) as rows:

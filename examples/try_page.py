@@ -7,8 +7,10 @@ and as one types the answer. The module odfilter is installed, or on PYTHONPATH.
 """
 import functools
 import json
+import re
 import secrets
 import sys
+import time
 from http.server import BaseHTTPRequestHandler, ThreadingHTTPServer
 from os.path import dirname, join, realpath
 
@@ -16,6 +18,8 @@ import odfilter
 
 BODY_LIMIT = 1 << 24  # bytes of one question
 LINE_LIMIT = 1 << 20  # bytes of a row, as `odfilter filter` has it
+BOUND = 1_000_000  # what the filter may cost on a row
+SECONDS = 5  # in which the rows of one question are judged; those that are left then have no verdict
 HOSTS = ("127.0.0.1", "localhost")
 POLICY = "default-src 'none'; script-src 'nonce-{0}'; style-src 'nonce-{0}'; connect-src 'self'; img-src data:; "
 POLICY += "base-uri 'none'; form-action 'none'; frame-ancestors 'none'; require-trusted-types-for 'script'"
@@ -112,11 +116,20 @@ def tree_of(explanation, places):
         yield [(len(line) - len(inner)) // 2, places[start], places[stop], label, kind, span]
 
 
-def verdict_of(judge, line):
+def units_before(text, offset):
+    """How many units of UTF-16 stand before a byte of a text."""
+    return len(text.encode()[:offset].decode().encode("utf-16-le")) // 2
+
+
+def verdict_of(judge, line, ends):
     if len(line) > LINE_LIMIT:
         return {"fault": "LineTooLong", "path": "", "sentence": "LineTooLong"}
+    if time.monotonic() > ends:
+        return {"fault": "NotJudged", "path": "", "sentence": f"The rows before this one took {SECONDS} seconds."}
     try:
         return {True: "true", False: "false", None: "null"}[judge.verdict(line)]
+    except odfilter.TooCostly:
+        return {"fault": "TooCostly", "path": "", "sentence": f"The filter costs more than {BOUND:,} on this row."}
     except odfilter.RowFault as fault:
         return {"fault": fault.name, "path": fault.path, "sentence": str(fault)}
 
@@ -124,9 +137,9 @@ def verdict_of(judge, line):
 def judged(accepted, asked):
     """Of each line with a row its number, from 0, and its verdict; nothing where the moment is at fault."""
     try:
-        judge = accepted.judge(asked["now"] if accepted.needs_moment else None)
+        judge, ends = accepted.judge(asked["now"] if accepted.needs_moment else None, BOUND), time.monotonic() + SECONDS
         lines = enumerate(asked["rows"].encode("utf-8", "surrogatepass").split(b"\n"))
-        return {"rows": [[number, verdict_of(judge, line)] for number, line in lines if line.strip(b" \t\r")]}
+        return {"rows": [[number, verdict_of(judge, line, ends)] for number, line in lines if line.strip(b" \t\r")]}
     except (odfilter.NotAMoment, odfilter.NotUtf8) as fault:
         return {"moment": shown_fault(fault)}
 
@@ -147,8 +160,8 @@ def answer(asked):
     try:
         accepted, places = of_type.check(asked["filter"]), offsets(asked["filter"])
     except odfilter.Refused as fault:
-        places = offsets(asked["filter"])
-        span = {"name": fault.name, "start": places[fault.start], "stop": places[fault.stop]}
+        start, stop = (units_before(asked["filter"], it) for it in (fault.start, fault.stop))
+        span = {"name": fault.name, "start": start, "stop": stop}
         return {**shown, "refused": {**shown_fault(fault), **span}}
     except odfilter.Error as fault:
         return {**shown, "refused": {**shown_fault(fault), "name": type(fault).__name__, "start": 0, "stop": 0}}
@@ -177,7 +190,8 @@ class Page(BaseHTTPRequestHandler):
     def do_POST(self):  # pylint: disable=invalid-name
         size = self.headers.get("Content-Length", "")
         is_json = self.headers.get("Content-Type", "") == "application/json"
-        if not (self.is_ours() and is_json and self.path == "/try" and size.isdecimal() and int(size) <= BODY_LIMIT):
+        is_bounded = re.fullmatch("[0-9]{1,8}", size) is not None and int(size) <= BODY_LIMIT
+        if not (self.is_ours() and is_json and self.path == "/try" and is_bounded):
             self.close_connection = True
             return self.send(400, "text/plain", b"no question\n")
         try:

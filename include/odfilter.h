@@ -90,7 +90,7 @@ extern "C" {
 
 /* Why a filter has no conditions of SQL; `fault` is 0. */
 #define ODFILTER_UNSAYABLE 26u      /* a literal or the name of a column holds U+0000, which no engine takes */
-#define ODFILTER_TOO_DEEP 27u       /* the conditions nest more deeply than the engine's parser goes */
+#define ODFILTER_TOO_DEEP 27u       /* the filter nests over 100 levels, or the SQL too deeply for the engine */
 #define ODFILTER_UNKNOWN_COLUMN 28u /* a line about columns names no property of the filter's type */
 
 /* ---- Faults, by their status. The names are those that odfilter_fault_name writes. */
@@ -237,7 +237,8 @@ uint32_t odfilter_check_query(const odfilter_handle *type, odfilter_bytes query,
 
 /* Checks the filter among any options of a whole query, as it stands in a URL after the '?'. Other options are the
  * caller's: only their names are read. A query in which some option is not a filter, but would be one for a reader that
- * is less strict (`%20$filter`, `x=1;$filter=..`, `%2524filter`), is refused as ODFILTER_QUERY_DISGUISED.
+ * is less strict (`%20$filter`, `x=1;$filter=..`, `%2524filter`, `[$filter]`, the `/P?$filter` of a whole URL), is
+ * refused as ODFILTER_QUERY_DISGUISED.
  *
  * ODFILTER_OK: `filter` is the filter. ODFILTER_TEXT_FAULT, ODFILTER_SYNTAX_FAULT, ODFILTER_TYPE_FAULT: `fault`, and
  * `start` and `stop` in the decoded text. In each of these cases the decoded text of the filter has `length` bytes and

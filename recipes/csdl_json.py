@@ -19,353 +19,92 @@ says nothing; a decimal of XML without `Scale` has scale 0; members without valu
 no limit and is left out.
 
 Refused with one line on standard error and status 3: what is not metadata of OData 4; a document type declaration,
-before any of it is expanded; names that come twice or are no identifiers; a type, base type or path that is missing; a
-schema too large for odfilter. Status 2 is the command line, 5 a file that cannot be read. It needs Python 3.9 alone.
+before any of it is expanded; a tag or a comment of more than 262,144 bytes; names that come twice or are no
+identifiers; a type, base type or path that is missing; a schema too large for odfilter. Status 2 is the command line, 5
+a file that cannot be read. It needs Python 3.9 and csdl_xml.py beside it, and takes at most 20 times the memory of the
+document.
 """
 import argparse
 import difflib
+import heapq
+import itertools
 import json
+import operator
 import os
-import re
 import sys
-import unicodedata
-from xml.parsers import expat
 
-EDM, EDMX = "http://docs.oasis-open.org/odata/ns/edm", "http://docs.oasis-open.org/odata/ns/edmx"
-VERSIONS = ("4.0", "4.01")
+sys.path.insert(0, os.path.dirname(os.path.realpath(__file__)))
+from csdl_xml import Document, Refused, shown
+
 STRUCTURED = ("EntityType", "ComplexType")
-# what is passed over with all that stands in it
-LEFT_OUT = {"Annotation", "Annotations", "Term", "Action", "Function", "EntityContainer", "Reference"}
-EDMX_NAMES = {"Edmx", "DataServices", "Reference"}
-# the elements that may stand in an element of a type
-INNER = {
-    "EntityType": {"Key", "Property", "NavigationProperty"},
-    "ComplexType": {"Property", "NavigationProperty"},
-    "EnumType": {"Member"},
-    "TypeDefinition": set(),
-}
-# the types of whole numbers, each with the numbers that it has
-WHOLE_TYPES = {f"Edm.Int{bits}": range(-(1 << bits - 1), 1 << bits - 1) for bits in (16, 32, 64)}
-WHOLE_TYPES |= {"Edm.Byte": range(256), "Edm.SByte": range(-128, 128)}
 DOCUMENT_LIMIT = 1 << 26  # bytes of XML
-DEPTH_LIMIT = 100  # elements in one another
 SCHEMA_LIMIT, TYPE_LIMIT, BASE_LIMIT = 1 << 20, 4_096, 64  # what odfilter reads
-WHOLE = "[+-]?[0-9]{1,19}"
-TRUTH = {"true": True, "1": True, "false": False, "0": False}
+NAME_LIMIT, NAMES_LIMIT = 200, 20_000  # names among which one is looked for that was meant
+TOO_MUCH = f"the schema has more than {SCHEMA_LIMIT:,} bytes or {TYPE_LIMIT:,} types, and odfilter reads no more: "
+TOO_MUCH += "name fewer types by --type"
 
 
-# the categories of an identifier's characters
-LATER = {"L", "Nl", "Nd", "Mn", "Mc", "Pc", "Cf"}
+class Types(Document):
+    """The types of a document, by their names: of each the namespace and its own name."""
 
+    def names(self):
+        return ((namespace, name) for namespace, types in self.types.items() for name in types)
 
-class Refused(Exception):
-    """Why a document is refused, in one line."""
+    def made(self, name):
+        return self.types[name[0]][name[1]]
 
+    def whole_name(self, text):
+        """The name of a type by its text, which may begin with an alias; None where no type of the document has it."""
+        front, _, last = text.rpartition(".")
+        namespace = self.aliases[front][0] if front in self.aliases else front
+        return (namespace, last) if last in self.types.get(namespace, ()) else None
 
-def shown(name):
-    """A name of a document as a message shows it: printable, and not long."""
-    text = "".join(it if it.isprintable() else "\N{REPLACEMENT CHARACTER}" for it in name)
-    return text if len(text) <= 120 else f"{text[:117]}..."
-
-
-class Element:
-    """An element of XML: its name, its attributes without those of other namespaces, and its inner elements."""
-
-    def __init__(self, name, attributes, line):
-        self.name, self.line, self.inner = name, line, []
-        self.attributes = {key: value for key, value in attributes.items() if " " not in key}
-
-    def fault(self, text):
-        return Refused(f"line {self.line}: {text}")
-
-    def get(self, name):
-        if name not in self.attributes:
-            raise self.fault(f"{self.name} without {name}")
-        return self.attributes[name]
-
-    def truth(self, name, default):
-        value = self.attributes.get(name)
-        if value is None:
-            return default
-        if value not in TRUTH:
-            raise self.fault(f"{name} is neither true nor false: {shown(value)}")
-        return TRUTH[value]
-
-    def whole(self, name):
-        value = self.attributes[name]
-        if not re.fullmatch(WHOLE, value):
-            raise self.fault(f"{name} is no whole number: {shown(value)}")
-        return int(value)
-
-
-class Reader:
-    """Reads the elements of OData's two namespaces, and none of what is left out."""
-
-    def __init__(self):
-        self.root, self.open, self.depth, self.skipped = None, [], 0, None
-        self.parser = parser = expat.ParserCreate(namespace_separator=" ")
-        parser.StartElementHandler, parser.EndElementHandler = self.start, self.end
-        # It comes at the declaration's first words, so before what is declared in it.
-        parser.StartDoctypeDeclHandler = parser.EntityDeclHandler = parser.ExternalEntityRefHandler = self.refuse
-        parser.SetParamEntityParsing(expat.XML_PARAM_ENTITY_PARSING_NEVER)
-
-    def refuse(self, *_):
-        raise Refused(f"line {self.parser.CurrentLineNumber}: a document type declaration or an entity")
-
-    def start(self, name, attributes):
-        self.depth += 1
-        if self.depth > DEPTH_LIMIT:
-            raise Refused(f"line {self.parser.CurrentLineNumber}: more than {DEPTH_LIMIT} elements in one another")
-        if self.skipped is not None:
-            return
-        space, _, local = name.rpartition(" ")
-        # a schema of another namespace is refused later, so that none is lost without a word
-        is_schema = local == "Schema" and self.open and self.open[-1].name == "DataServices"
-        is_ours = space == (EDMX if local in EDMX_NAMES else EDM) or is_schema or self.root is None
-        if not is_ours or local in LEFT_OUT:
-            self.skipped = self.depth
-            return
-        element = Element(local, attributes, self.parser.CurrentLineNumber)
-        element.attributes[" namespace"] = space
-        if self.open:
-            self.open[-1].inner.append(element)
-        self.root = self.root or element
-        self.open.append(element)
-
-    def end(self, _):
-        if self.skipped is None:
-            self.open.pop()
-        elif self.skipped == self.depth:
-            self.skipped = None
-        self.depth -= 1
-
-    def read(self, document):
-        try:
-            self.parser.Parse(document, True)
-        except expat.ExpatError as fault:
-            raise Refused(f"line {fault.lineno}: no XML: {expat.ErrorString(fault.code)}") from fault
-        except (LookupError, ValueError) as fault:
-            raise Refused("no XML: its encoding is not known") from fault
-        return self.root
-
-
-def is_identifier(name):
-    """Whether a name is an identifier of OData."""
-    kinds = [category if category in LATER else category[0] for category in map(unicodedata.category, name)]
-    return bool(name) and (name[0] == "_" or kinds[0] in ("L", "Nl")) and all(kind in LATER for kind in kinds)
-
-
-def add(members, name, value, element):
-    """Adds a member whose name is an identifier and comes once."""
-    if not is_identifier(name):
-        raise element.fault(f"the name of {element.name} is no identifier: {shown(name)}")
-    if name in members:
-        raise element.fault(f"{element.name} {shown(name)} stands twice")
-    members[name] = value
-
-
-def facets_of(element, type_name):
-    facets = {}
-    for name in ("MaxLength", "Precision", "Scale"):
-        word = element.attributes.get(name, "").lower()
-        if name == "Scale" and word in ("variable", "floating"):
-            facets["$Scale"] = word
-        elif name in element.attributes and (name, word) != ("MaxLength", "max"):
-            facets[f"${name}"] = element.whole(name)
-    if type_name == "Edm.Decimal" and element.name == "Property":
-        facets.setdefault("$Scale", 0)
-    if not element.truth("Unicode", True):
-        facets["$Unicode"] = False
-    if "SRID" in element.attributes:
-        facets["$SRID"] = element.attributes["SRID"]
-    return facets
-
-
-def default_of(text, type_name):
-    """The default value of a property as JSON has it; one that does not fit the type stays a text."""
-    if type_name == "Edm.Boolean":
-        return TRUTH.get(text, text)
-    return int(text) if type_name in WHOLE_TYPES and re.fullmatch(WHOLE, text) else text
-
-
-def type_of(element):
-    """The type of a property, and whether it is a collection of it."""
-    text = element.get("Type")
-    found = re.fullmatch(r"Collection\((.*)\)", text, re.DOTALL)
-    name = found[1] if found else text
-    if not all(map(is_identifier, name.split("."))) or "." not in name:
-        raise element.fault(f"this is no type: {shown(text)}")
-    return name, found is not None
-
-
-def property_of(element):
-    """A property as JSON has it, where it may be null only if it says so."""
-    name, is_collection = type_of(element)
-    made = {} if name == "Edm.String" else {"$Type": name}
-    if is_collection:
-        made["$Collection"] = True
-    if element.truth("Nullable", True):
-        made["$Nullable"] = True
-    made.update(facets_of(element, name))
-    if "DefaultValue" in element.attributes:
-        made["$DefaultValue"] = default_of(element.attributes["DefaultValue"], name)
-    return made
-
-
-def navigation_of(element):
-    name, is_collection = type_of(element)
-    made = {"$Kind": "NavigationProperty", "$Type": name}
-    if is_collection:
-        made["$Collection"] = True
-    elif element.truth("Nullable", True):
-        made["$Nullable"] = True
-    if "Partner" in element.attributes:
-        made["$Partner"] = element.attributes["Partner"]
-    if element.truth("ContainsTarget", False):
-        made["$ContainsTarget"] = True
-    inner = [it for it in element.inner if it.name == "ReferentialConstraint"]
-    if inner:
-        made["$ReferentialConstraint"] = {it.get("Property"): it.get("ReferencedProperty") for it in inner}
-    made.update({"$OnDelete": it.get("Action") for it in element.inner if it.name == "OnDelete"})
-    return made
-
-
-def structured_of(element):
-    """An entity type or a complex type as JSON has it."""
-    made = {"$Kind": element.name}
-    made.update({"$BaseType": it for key, it in element.attributes.items() if key == "BaseType"})
-    made.update({f"${name}": True for name in ("Abstract", "OpenType", "HasStream") if element.truth(name, False)})
-    for inner in element.inner:
-        if inner.name == "Key":
-            if "$Key" in made:
-                raise inner.fault("Key stands twice")
-            refs = [(it.get("Name"), it.attributes.get("Alias")) for it in inner.inner]
-            made["$Key"] = [name if alias is None else {alias: name} for name, alias in refs]
-        else:
-            value = property_of(inner) if inner.name == "Property" else navigation_of(inner)
-            add(made, inner.get("Name"), value, inner)
-    return made
-
-
-def enumeration_of(element):
-    """An enumeration as JSON has it: each member with its value."""
-    made, is_flags = {"$Kind": "EnumType"}, element.truth("IsFlags", False)
-    underlying = element.attributes.get("UnderlyingType", "Edm.Int32")
-    if underlying != "Edm.Int32":
-        made["$UnderlyingType"] = underlying
-    if is_flags:
-        made["$IsFlags"] = True
-    have_values = ["Value" in inner.attributes for inner in element.inner]
-    if not all(have_values) and (any(have_values) or is_flags):
-        rule = "flags have" if is_flags else "either all members have or none has"
-        raise element.fault(f"an enumeration with a member without Value: {rule} one")
-    if underlying not in WHOLE_TYPES:
-        raise element.fault(f"an enumeration over {shown(underlying)}, which is no type of whole numbers")
-    for number, inner in enumerate(element.inner):
-        value = inner.whole("Value") if have_values[0] else number
-        if value not in WHOLE_TYPES[underlying]:
-            raise inner.fault(f"{value} is not within {underlying}")
-        add(made, inner.get("Name"), value, inner)
-    return made
-
-
-def definition_of(element):
-    name = element.get("UnderlyingType")
-    return {"$Kind": "TypeDefinition", "$UnderlyingType": name, **facets_of(element, name)}
-
-
-MAKERS = {"EnumType": enumeration_of, "TypeDefinition": definition_of}
-
-
-def types_of(schema):
-    """The types of a schema by their names, as JSON has them."""
-    types = {}
-    for element in schema.inner:
-        if element.name in INNER:
-            strange = next((it for it in element.inner if it.name not in INNER[element.name]), None)
-            if strange is not None:
-                raise strange.fault(f"an element {shown(strange.name)} in {element.name}")
-            add(types, element.get("Name"), MAKERS.get(element.name, structured_of)(element), element)
-    return types
-
-
-class Document:
-    """What a document declares: its version, and of each namespace its alias and its types."""
-
-    def __init__(self, root):
-        self.version, self.aliases, self.types, self.namespaces = version_of(root), {}, {}, {}
-        services = [element for element in root.inner if element.name == "DataServices"]
-        if len(services) != 1:
-            raise root.fault(f"DataServices stands {len(services)} times, not once")
-        for schema in services[0].inner:
-            self.add_schema(schema)
-        for alias, (namespace, schema) in self.aliases.items():
-            if alias in self.namespaces:
-                raise schema.fault(f"the alias {shown(alias)} of {shown(namespace)} is a namespace")
-
-    def add_schema(self, schema):
-        space = schema.attributes[" namespace"]
-        if (schema.name, space) != ("Schema", EDM):
-            raise schema.fault(f"{shown(schema.name)} of {shown(space)} in DataServices, not Schema of {EDM}")
-        namespace, alias = schema.get("Namespace"), schema.attributes.get("Alias")
-        if not all(map(is_identifier, namespace.split("."))):
-            raise schema.fault(f"the namespace of a schema is no dotted name: {shown(namespace)}")
-        if namespace in self.namespaces:
-            raise schema.fault(f"the namespace {shown(namespace)} stands twice")
-        if alias is not None:
-            add(self.aliases, alias, (namespace, schema), schema)
-        self.namespaces[namespace] = alias
-        self.types.update({f"{namespace}.{name}": made for name, made in types_of(schema).items()})
-
-    def whole_name(self, name):
-        """A name with its namespace instead of an alias; None where no type of the document has it."""
-        front, _, last = name.rpartition(".")
-        whole = f"{self.aliases[front][0]}.{last}" if front in self.aliases else name
-        return whole if whole in self.types else None
-
-    def entity_type(self, name):
-        whole = self.whole_name(name)
-        if whole is not None and self.types[whole]["$Kind"] == "EntityType":
+    def entity_type(self, text):
+        whole = self.whole_name(text)
+        if whole is not None and self.made(whole)["$Kind"] == "EntityType":
             return whole
-        names = [it for it, made in self.types.items() if made["$Kind"] == "EntityType"]
-        near = difflib.get_close_matches(name, names, 1) if len(name) < 200 and len(names) < 20_000 else []
-        raise Refused(f"no entity type {shown(name)}{f'; there is {shown(near[0])}' if near else ''}")
+        each = (".".join(it) for it in self.names() if len(it[0]) + len(it[1]) < NAME_LIMIT and self.is_entity_type(it))
+        near = nearest(text, itertools.islice(each, NAMES_LIMIT)) if len(text) < NAME_LIMIT else []
+        raise Refused(f"no entity type {shown(text)}{f'; there is {shown(near[0])}' if near else ''}")
+
+    def is_entity_type(self, name):
+        return self.made(name)["$Kind"] == "EntityType"
 
     def chain(self, name):
         """A type and its base types, the nearest first."""
         seen = {}
         while name is not None:
             if name in seen or len(seen) > BASE_LIMIT:
-                raise Refused(f"the base types of {shown(name)} do not end, or are more than {BASE_LIMIT}")
-            seen[name], base = None, self.types[name].get("$BaseType")
+                raise Refused(f"the base types of {dotted(name)} do not end, or are more than {BASE_LIMIT}")
+            seen[name], base = None, self.made(name).get("$BaseType")
             below, name = name, base and self.whole_name(base)
-            if base is not None and (name is None or self.types[name]["$Kind"] != self.types[below]["$Kind"]):
-                raise Refused(f"the base type {shown(base)} of {shown(below)} is not there")
+            if base is not None and (name is None or self.made(name)["$Kind"] != self.made(below)["$Kind"]):
+                raise Refused(f"the base type {shown(base)} of {dotted(below)} is not there")
         return seen
 
     def properties(self, name):
         """The own properties of a type, each with the whole name of its type, or None."""
-        for member, made in self.types[name].items() if self.types[name]["$Kind"] in STRUCTURED else ():
+        made = self.made(name)
+        for member, it in made.items() if made["$Kind"] in STRUCTURED else ():
             if not member.startswith("$"):
-                yield member, made, self.whole_name(made.get("$Type", "Edm.String"))
+                yield member, it, self.whole_name(it.get("$Type", "Edm.String"))
 
 
-def version_of(root):
-    space, version = root.attributes[" namespace"], root.attributes.get("Version", "")
-    if root.name == "Edmx" and space.startswith("http://schemas.microsoft.com/"):
-        raise root.fault("metadata of OData 2 or 3; odfilter reads OData 4.0 and 4.01")
-    if (root.name, space) != ("Edmx", EDMX):
-        raise root.fault(f"no metadata of OData: its first element is {shown(root.name)}")
-    if version not in VERSIONS:
-        raise root.fault(f"the version is {shown(version)}, not 4.0 or 4.01")
-    return version
+def nearest(text, names):
+    """The name that a text is most like, if it is like one: of the few that are most alike as counted from both ends."""
+    alike = lambda name: sum(map(operator.eq, text, name)) + sum(map(operator.eq, text[::-1], name[::-1]))
+    return difflib.get_close_matches(text, heapq.nlargest(8, names, key=alike), 1)
+
+
+def dotted(name):
+    return shown(".".join(name))
 
 
 class Reach:
     """The types that are kept: those that were named, and what these need."""
 
     def __init__(self, document):
-        self.document, self.kept = document, {}
+        self.document, self.kept, self.new = document, {}, []
 
     def keep(self, name):
         """Keeps a type with its base types and all but the entity types that its properties lead to."""
@@ -374,49 +113,51 @@ class Reach:
             name = waiting.pop()
             if name not in self.kept:
                 self.kept[name] = None
-                waiting += self.document.chain(name)
+                self.new.append(name)
+                waiting += [it for it in self.document.chain(name) if it not in self.kept]
                 each = self.document.properties(name)
-                waiting += [needed for _, made, needed in each if needed is not None and "$Kind" not in made]
-
-    def targets(self):
-        """The entity types that the navigation properties of what is kept lead to."""
-        each = [it for name in self.kept for it in self.document.properties(name)]
-        return [target for _, made, target in each if target is not None and "$Kind" in made]
+                waiting += {it: None for _, made, it in each if it is not None and "$Kind" not in made}
+            if len(self.kept) > TYPE_LIMIT:
+                raise Refused(TOO_MUCH)
 
     def keep_within(self, depth):
         for _ in range(depth):
-            new = {it: None for it in self.targets() if it not in self.kept}
-            if not new:
-                break
+            new, self.new = self.new, []
             for name in new:
-                self.keep(name)
+                for _, made, target in self.document.properties(name):
+                    if target is not None and "$Kind" in made:
+                        self.keep(target)
+            if not self.new:
+                break
 
     def keep_along(self, start, path):
         """Keeps the types along a path; whether the start has its first property, and so all of it."""
         at = start
         for place, step in enumerate(path.split("/")):
             found = self.step(at, step)
-            if found is not None and self.document.types[found]["$Kind"] in STRUCTURED:
+            if found is not None and self.document.made(found)["$Kind"] in STRUCTURED:
                 self.keep(found)
                 at = found
             elif place == 0:
                 return False
             else:
-                raise Refused(f"{shown(at)} has no property {shown(step)} that leads on: --expand {shown(path)}")
+                raise Refused(f"{dotted(at)} has no property {shown(step)} that leads on: --expand {shown(path)}")
         return True
 
     def step(self, at, step):
         """The type of a property of a type or of its base types, or None."""
-        each = [it for name in self.document.chain(at) for it in self.document.properties(name)]
-        return next((target for member, _, target in each if member == step), None)
+        each = [self.document.made(name).get(step) for name in self.document.chain(at)] if step[:1] != "$" else []
+        types = [self.document.whole_name(it.get("$Type", "Edm.String")) for it in each if isinstance(it, dict)]
+        return next(iter(types), None)
 
 
 def kept_types(document, words):
     """The names of the types that the schema has."""
     if not words.type:
-        for name in document.types:
+        names = dict.fromkeys(itertools.islice(document.names(), TYPE_LIMIT + 1))
+        for name in names:
             document.chain(name)
-        return document.types
+        return names
     reach, starts = Reach(document), [document.entity_type(name) for name in words.type]
     for start in starts:
         reach.keep(start)
@@ -430,32 +171,38 @@ def kept_types(document, words):
 compact = json.JSONEncoder(ensure_ascii=False, separators=(",", ":")).encode
 
 
-def text_of(document, kept):
+def pieces_of_type(made):
+    for number, (name, member) in enumerate(made.items()):
+        yield f"{',' if number else '{'}{compact(name)}:{compact(member)}"
+    yield "}"
+
+
+def pieces_of(document, kept):
     """The schema: a line for each namespace and each type, in the order of the document."""
-    schemas = {}
-    for name, made in document.types.items():
-        if name in kept:
-            namespace, _, own = name.rpartition(".")
-            schemas.setdefault(namespace, []).append(f"{compact(own)}:{compact(made)}")
-    lines = [f'{{"$Version":{compact(document.version)}']
-    for namespace, types in schemas.items():
-        alias = document.namespaces[namespace]
-        inner = ([f'"$Alias":{compact(alias)}'] if alias is not None else []) + types
-        lines.append(f"{compact(namespace)}:{{\n" + ",\n".join(inner) + "}")
-    return ",\n".join(lines) + "}\n"
+    yield f'{{"$Version":{compact(document.version)}'
+    for namespace, types in document.types.items():
+        names = [name for name in types if (namespace, name) in kept]
+        if names:
+            alias = document.namespaces[namespace]
+            yield f",\n{compact(namespace)}:{{\n" + ("" if alias is None else f'"$Alias":{compact(alias)},\n')
+            for number, name in enumerate(names):
+                yield (",\n" if number else "") + f"{compact(name)}:"
+                yield from pieces_of_type(types[name])
+            yield "}"
+    yield "}\n"
 
 
 def converted(data, words):
     """The bytes of the schema that a document of XML stands for."""
     if len(data) > DOCUMENT_LIMIT:
         raise Refused(f"more than {DOCUMENT_LIMIT:,} bytes")
-    document = Document(Reader().read(data))
-    kept = kept_types(document, words)
-    text = text_of(document, kept).encode()
-    if len(text) > SCHEMA_LIMIT or len(kept) > TYPE_LIMIT:
-        size = f"the schema has {len(text):,} bytes and {len(kept):,} types, and odfilter reads"
-        raise Refused(f"{size} {SCHEMA_LIMIT:,} and {TYPE_LIMIT:,}: name fewer types by --type")
-    return text
+    document = Types(data)
+    kept, text = kept_types(document, words), bytearray()
+    for piece in pieces_of(document, kept):
+        text += piece.encode()
+        if len(text) > SCHEMA_LIMIT or len(kept) > TYPE_LIMIT:
+            raise Refused(TOO_MUCH)
+    return bytes(text)
 
 
 def words_of(line):

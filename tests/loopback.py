@@ -24,9 +24,11 @@ class Backend(BaseHTTPRequestHandler):
 
     protocol_version = "HTTP/1.1"
     asked = []
+    headers_seen = []
 
     def do_GET(self):  # pylint: disable=invalid-name
         self.asked.append(self.path)
+        self.headers_seen.append({name.lower() for name in self.headers})
         body = f"asked {self.path}".encode()
         head = f"HTTP/1.1 {404 if self.path.startswith('/Missing') else 200} reported\r\nContent-Type: text/x-asked\r\n"
         self.wfile.write(f"{head}Content-Length: {len(body)}\r\n\r\n".encode() + body)
@@ -45,13 +47,16 @@ def backend():
         server.shutdown()
 
 
-def ask(address, target, method=b"GET"):
-    """The answer of a server to a request of any bytes, without a body: its status, the kind of its body, and that."""
+def ask(address, target, method=b"GET", after=b"\r\n"):
+    """The answer of a server to a request of any bytes: its status, the kind of its body, and that.
+
+    `after` is what follows the first headers: further ones, an empty line and a body.
+    """
     host, port = address.split(":")
     line = target if isinstance(target, bytes) else target.encode()
     with socket.create_connection((host, int(port)), LIMIT) as connection:
-        head = b"%b %b HTTP/1.1\r\nHost: %b\r\nConnection: close\r\n\r\n"
-        connection.sendall(head % (method, line, address.encode()))
+        head = b"%b %b HTTP/1.1\r\nHost: %b\r\nConnection: close\r\n%b"
+        connection.sendall(head % (method, line, address.encode(), after))
         got = http.client.HTTPResponse(connection)
         got.begin()
         return got.status, got.headers["Content-Type"], got.read().decode()
@@ -60,6 +65,45 @@ def ask(address, target, method=b"GET"):
 def is_passed(said, seen, wanted):
     """Whether the backend alone was asked that, once, and its answer came back."""
     return said == (200, "text/x-asked", f"asked {wanted}") and seen == [wanted]
+
+
+# paths that hold a filter, or may
+FILTERS_IN_PATHS = [
+    "/All/$filter(Foo%20eq%201)", "/All/%24filter(Foo%20eq%201)", "/All/%2524filter(Foo)", "/All/%252524filter(Foo)",
+    "/All/%24%46ILTER(Foo)/$count", "/All%2F$filter(Foo)", "/All/$filter(@f)?@f=Foo", "/All/$filter(@f)/$count?@f=Foo",
+    "/All/%u0024filter(Foo)", "/All/$fil%00ter(Foo)", "/All/$filter=@f?$filter=Active&@f=Foo",
+]
+# headers that would make of a GET another request, by both spellings of their names; and a body that is one
+_NAMES = "HTTP-Method HTTP-Method-Override Method-Override Original-URL Rewrite-URL".split()
+OTHERS = [f"X-{it}: {'/All?$filter=Foo' if 'URL' in it else 'POST'}\r\n".encode() for it in _NAMES]
+OTHERS += [it.replace(b"-", b"_") for it in OTHERS]
+_BODY = b"GET /All?$filter=Foo HTTP/1.1\r\nHost: other\r\n\r\n"
+_LENGTH, _CHUNK = b"Content-Length: %d\r\n" % len(_BODY), b"%x\r\n%b\r\n0\r\n\r\n" % (len(_BODY), _BODY)
+BODIES = [
+    _LENGTH + b"\r\n" + _BODY, b"Transfer-Encoding: chunked\r\n\r\n" + _CHUNK,
+    b"Content-Type: text/plain\r\nExpect: 100-continue\r\n" + _LENGTH + b"\r\n" + _BODY,
+]
+# what follows the first headers of a request
+AFTER = [header + b"\r\n" for header in OTHERS] + BODIES + [OTHERS[1] + body for body in BODIES]
+# what no request has that reaches the backend
+DROPPED = {it.partition(b":")[0].decode().lower() for it in OTHERS}
+DROPPED |= {"content-length", "transfer-encoding", "expect", "upgrade"}
+
+
+def checks_of_other_requests(address):
+    """What a GET might hide: a filter in its path is refused; the backend sees no body, and no header of OTHERS."""
+    for target in FILTERS_IN_PATHS:
+        Backend.asked.clear()
+        said = ask(address, target)
+        yield f"refused: {target}", said[0] == 400 and not Backend.asked, said
+    for target in ("/All", "/$batch", "/All/$query"):
+        for after in AFTER:
+            Backend.asked.clear()
+            Backend.headers_seen.clear()
+            said = ask(address, target, after=after)
+            seen, headers = list(Backend.asked), list(Backend.headers_seen)
+            is_alone = is_passed(said, seen, target) and not headers[0] & DROPPED
+            yield f"{target} alone: {after}", is_alone, (said, seen, headers)
 
 
 def is_refused(said, seen, code, inner):

@@ -26,20 +26,33 @@ end
 
 local function inner_error(fault)
   if fault.text then
-    return ('{"span":[%d,%d],"pointer":%s}'):format(fault.start, fault.stop, quoted(pointer(fault)))
+    return (',"innererror":{"span":[%d,%d],"pointer":%s}'):format(fault.start, fault.stop, quoted(pointer(fault)))
   end
-  local name = fault.byte and "byte" or "option"
-  return ('{"%s":%d}'):format(name, fault[name])
+  local name = fault.byte and "byte" or fault.option and "option"
+  return name and (',"innererror":{"%s":%d}'):format(name, fault[name]) or ""
 end
 
 local function refuse(fault)
-  local body = ('{"error":{"code":%s,"message":%s,"target":"$filter","innererror":%s}}'):format(
+  local body = ('{"error":{"code":%s,"message":%s,"target":"$filter"%s}}'):format(
     quoted(fault.code), quoted(fault.message), inner_error(fault))
   ngx.status = ngx.HTTP_BAD_REQUEST
   ngx.header.content_type = "application/json"
   ngx.header.content_length = #body
   ngx.print(body)
   return ngx.exit(ngx.HTTP_BAD_REQUEST)
+end
+
+-- what a path is refused for that holds a filter, as `/Products/$filter(Active)`, or may hold one: it is still escaped
+-- when it has been decoded twice
+local IN_PATH = { code = "BadPath", message = "A filter in a path is not checked here: write it as the option $filter." }
+
+local function may_hold_filter(path)
+  for _ = 1, 2 do
+    path = path:gsub("%%(%x%x)", function(digits)
+      return string.char(tonumber(digits, 16))
+    end)
+  end
+  return path:lower():find("$filter", 1, true) or path:find("%%%x%x")
 end
 
 local filter = {}
@@ -57,6 +70,9 @@ function filter.check(of_type)
   local path, query = ngx.var.request_uri:match("^(/[^?#]*)%??([^#]*)$")
   if not path then
     return ngx.exit(ngx.HTTP_BAD_REQUEST)
+  end
+  if may_hold_filter(path) then
+    return refuse(IN_PATH)
   end
   local found, fault = of_type:check_url(query)
   if fault then

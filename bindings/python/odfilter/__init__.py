@@ -24,8 +24,9 @@ its UTF-8.
 
 Each object holds something of the library and gives it back by `close()`, at the end of `with`, or when it is
 collected. They may be closed in any order: each keeps what it needs. Schemas, types and filters may be used from
-several threads at once. A judge may too, but its calls wait for one another: let each thread have its own. Other
-threads run while a call does. 256 KiB of a thread's stack suffice for the deepest filters tested.
+several threads at once. A judge may too, but its calls wait for one another: let each thread have its own. A handler of
+a signal that uses the judge whose call it interrupted gets a RuntimeError. Other threads run while a call does. 256 KiB
+of a thread's stack suffice for the deepest filters tested.
 
 The library is found by an argument, `Schema(document, odfilter.Library("/path/libodfilter.so"))`, else by the variable
 ODFILTER_LIBRARY, else as libodfilter.so in the folder of this module, or in the one that holds that.
@@ -33,6 +34,7 @@ ODFILTER_LIBRARY, else as libodfilter.so in the folder of this module, or in the
 from __future__ import annotations
 
 import ctypes
+import operator
 import threading
 from typing import Any, Callable, Mapping, NamedTuple, Optional, TypeVar, Union
 from urllib.parse import unquote_to_bytes
@@ -243,7 +245,7 @@ class Filter(_Held):
         """
         form = form_of(dialect, document)
         owned = self._open()
-        return conditions_of(owned.library, owned.handle, form, now or "", columns_in(columns or {}, document))
+        return conditions_of(owned.library, owned.handle, form, now, columns_in(columns or {}, document))
 
     def judge(self, now: Optional[str] = None, bound: Optional[int] = None) -> Judge:
         """A judge by this filter; `now` is the moment that now() stands for. Raises NotAMoment.
@@ -258,7 +260,7 @@ class Judge(_Held):
     """What judges rows by a filter, which it keeps: `Filter.judge` makes it."""
 
     def __init__(self, by_filter: Filter, now: Optional[str] = None, bound: Optional[int] = None) -> None:
-        self._filter, self._one_call = by_filter._open(), threading.Lock()
+        self._filter, self._one_call, self._is_in_call = by_filter._open(), threading.RLock(), False
         library = self._filter.library
         owned = _Owned(library, "new_judge_of", (self._filter.handle,))
         if now is not None and library._call("set_moment", owned.handle, _borrowed_text(now, "a moment")) != OK:
@@ -272,12 +274,8 @@ class Judge(_Held):
 
         Raises RowFault, MomentNeeded, TooCostly.
         """
-        owned, answer, borrowed = self._open(), _Answer(), _borrowed(row, "a row")
-        with self._one_call:
-            status = owned.library._call("judge_next", owned.handle, borrowed, ctypes.byref(answer))
-            if status != OK:
-                raise self._fault(owned, status, answer)
-        return _VERDICTS[answer.verdict]
+        owned = self._open()
+        return _VERDICTS[self._answer(owned, "judge_next", owned.handle, _borrowed(row, "a row")).verdict]
 
     def filter_file(
         self,
@@ -288,6 +286,7 @@ class Judge(_Held):
     ) -> Tally:
         """Writes the lines of a file on which the filter is true to another; each is a path or a binary file.
 
+        Both being one file is a ValueError, and an output that takes less than it is given an OSError.
         The first line at fault raises RowFault, after what is kept before it has been written. With `on_fault` the run
         goes on after that line: it calls `on_fault(fault, line)`, where `fault.line` counts the lines of the file from
         1, and a line of more than 1,048,576 bytes is cut to one more than these. `progress(tally)` is called after each
@@ -301,17 +300,31 @@ class Judge(_Held):
         Blank lines are passed over. The first line at fault raises RowFault, which has what is kept before it; also
         raises MomentNeeded.
         """
-        owned, answer, borrowed = self._open(), _Answer(), _borrowed(rows, "rows")
+        owned, borrowed = self._open(), _borrowed(rows, "rows")
         room, kept = _buffer_of(borrowed.length + 1)
-        with self._one_call:
-            handles = (self._filter.handle, owned.handle)
-            status = owned.library._call("filter_lines", *handles, borrowed, kept, ctypes.byref(answer))
-            text = bytes(memoryview(room)[: answer.length])
-            if status != OK:
-                raise self._fault(owned, status, answer, answer.number, text)
-        return Kept(text, answer.rows, answer.kept)
+        answer = self._answer(owned, "filter_lines", self._filter.handle, owned.handle, borrowed, kept, room=room)
+        return Kept(bytes(memoryview(room)[: answer.length]), answer.rows, answer.kept)
 
-    def _fault(self, owned: _Owned, status: int, answer: _Answer, line: int = 1, kept: bytes = b"") -> Error:
+    def _answer(self, owned: _Owned, call: str, *given: Any, room: Optional[bytearray] = None) -> _Answer:
+        """What a call by the judge answers; `room` has what a run over lines has written. Calls wait for one another.
+
+        One that a handler of a signal makes, while it interrupts another one of its thread, would wait for ever.
+        """
+        answer = _Answer()
+        with self._one_call:
+            if self._is_in_call:
+                raise RuntimeError("the judge is used within a call of its own")
+            try:
+                self._is_in_call = True
+                status = owned.library._call(call, *given, ctypes.byref(answer))
+                if status != OK:
+                    line, kept = (1, b"") if room is None else (answer.number, bytes(memoryview(room)[: answer.length]))
+                    raise self._fault(owned, status, answer, line, kept)
+            finally:
+                self._is_in_call = False
+        return answer
+
+    def _fault(self, owned: _Owned, status: int, answer: _Answer, line: int, kept: bytes) -> Error:
         library = owned.library
         if status == MOMENT_NEEDED:
             return library._worded(MomentNeeded(), status, answer, "")
@@ -324,6 +337,7 @@ class Judge(_Held):
 
 def _bound_of(bound: int) -> int:
     """The bound as the library takes it; what no row can cost is as good as none."""
+    bound = operator.index(bound)
     if bound < 0:
         raise ValueError("a bound is not negative")
     return min(bound, (1 << 64) - 1)

@@ -142,7 +142,8 @@ class TooCostly(Error):
 class Unsayable(Error):
     """A filter has no conditions of SQL for an engine: `name` is "Nul" or "TooDeep".
 
-    "Nul": a literal, or the name of a column that the filter need not ask, has U+0000.
+    "Nul": a literal, or the name of a column that the filter need not ask, has U+0000. "TooDeep": the filter nests over
+    100 levels, or the conditions more deeply than the engine's parser goes.
     """
 
     def __init__(self, name: str) -> None:

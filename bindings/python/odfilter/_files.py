@@ -2,7 +2,10 @@
 from __future__ import annotations
 
 import contextlib
+import errno
+import io
 import os
+import stat
 from typing import TYPE_CHECKING, Any, BinaryIO, Callable, Iterator, NamedTuple, Optional, Union
 
 from ._errors import RowFault
@@ -26,24 +29,33 @@ class Tally(NamedTuple):
     size: int
 
 
-def pieces_of(read: Callable[[int], bytes]) -> Iterator[bytes]:
-    """The text of a file in pieces of whole lines. A line over the limit is cut to one byte more than that."""
-    rest, is_cut = b"", False
+def blocks_of(read: Callable[[int], Optional[bytes]]) -> Iterator[bytes]:
+    """What a file has, as it gives it."""
     while block := read(BLOCK):
+        yield block
+    if block is None:
+        raise BlockingIOError(errno.EAGAIN, "the file of rows does not wait for what comes")
+
+
+def pieces_of(blocks: Iterator[bytes]) -> Iterator[bytes]:
+    """The text of a file in pieces of whole lines. A line over the limit is cut to one byte more than that."""
+    rest, is_cut = bytearray(), False
+    for block in blocks:
         if is_cut:
             # what follows the line feed of the line that was cut, if that is there yet
             _, found, block = block.partition(b"\n")
             is_cut = not found
         end = block.rfind(b"\n") + 1
         if end:
-            yield rest + block[:end]
-            rest = b""
+            yield bytes(rest) + block[:end]
+            rest.clear()
         rest += block[end:]
         if len(rest) > LINE_LIMIT:
-            yield rest[: LINE_LIMIT + 1] + b"\n"
-            rest, is_cut = b"", True
+            yield bytes(rest[: LINE_LIMIT + 1]) + b"\n"
+            rest.clear()
+            is_cut = True
     if rest:
-        yield rest
+        yield bytes(rest)
 
 
 class Run:
@@ -71,12 +83,20 @@ class Run:
             kept = self.judge.filter_lines(memoryview(piece)[start:stop])
         except RowFault as fault:
             return self.after_fault(fault, piece, start)
-        self.out.write(kept.text)
+        self.write(kept.text)
         self.rows, self.kept = self.rows + kept.rows, self.kept + kept.kept
         self.lines += piece.count(b"\n", start, stop)
         # Each call has a buffer as long as its lines: after many faults in a row these are short.
         self.step = min(2 * self.step, BLOCK)
         return stop
+
+    def write(self, kept: bytes) -> None:
+        """Writes lines. A raw file may take less than it is given, and one that does not wait nothing."""
+        taken = self.out.write(kept)
+        if taken is None and isinstance(self.out, io.RawIOBase):
+            taken = 0
+        if taken is not None and taken < len(kept):
+            raise OSError(errno.EIO, f"the output took {taken} bytes of {len(kept)}")
 
     def after_fault(self, fault: RowFault, piece: bytes, start: int) -> int:
         """Writes what is kept before a fault, reports that, and returns where the line after it begins."""
@@ -85,7 +105,7 @@ class Run:
             begin = piece.index(b"\n", begin) + 1
         end = piece.find(b"\n", begin)
         end = end if end >= 0 else len(piece)
-        self.out.write(fault.kept)
+        self.write(fault.kept)
         self.rows += sum(1 for line in piece[start:begin].split(b"\n") if line.strip(b" \t\r"))
         self.kept, self.faults = self.kept + fault.kept.count(b"\n"), self.faults + 1
         self.lines += fault.line
@@ -99,6 +119,22 @@ class Run:
         return end + 1
 
 
+def status_of(file: FileOrPath) -> Optional[os.stat_result]:
+    """What the system knows of a file, where it is there and is one of its own."""
+    try:
+        return os.stat(file if isinstance(file, (str, os.PathLike)) else file.fileno())
+    except (OSError, AttributeError):
+        return None
+
+
+def are_one(rows: FileOrPath, out: FileOrPath) -> bool:
+    """Whether what is written would go into the file that is read: a stream by itself, or a file by two names."""
+    first, second = status_of(rows), status_of(out)
+    if first is None or second is None:
+        return rows is out
+    return os.path.samestat(first, second) and stat.S_ISREG(first.st_mode)
+
+
 def filter_file(
     judge: Judge,
     rows: FileOrPath,
@@ -106,12 +142,14 @@ def filter_file(
     on_fault: Optional[Callable[[RowFault, bytes], Any]],
     progress: Optional[Callable[[Tally], Any]],
 ) -> Tally:
+    if are_one(rows, out):
+        raise ValueError("the rows and the output are one file")
     with contextlib.ExitStack() as stack:
         source = stack.enter_context(open(rows, "rb")) if isinstance(rows, (str, os.PathLike)) else rows
         target = stack.enter_context(open(out, "wb")) if isinstance(out, (str, os.PathLike)) else out
         run = Run(judge, target, on_fault)
         # What has come is judged before more is waited for, where the file can say what that is.
-        for piece in pieces_of(getattr(source, "read1", source.read)):
+        for piece in pieces_of(blocks_of(getattr(source, "read1", None) or source.read)):
             run.take(piece)
             run.size += len(piece)
             if progress is not None:

@@ -175,11 +175,11 @@ def _found() -> Library:
 
 
 def _borrowed(given: BytesOrText, what: str) -> _Bytes:
-    """Bytes as a call borrows them; a str stands for its UTF-8."""
+    """Bytes as a call borrows them; a str stands for its UTF-8. A class of one's own may say another length."""
     if isinstance(given, str):
-        given = given.encode("utf-8", "surrogatepass")
+        given = str.encode(given, "utf-8", "surrogatepass")
     if isinstance(given, bytes):
-        return _Bytes(given, len(given))
+        return _Bytes(given, bytes.__len__(given))
     if isinstance(given, (bytearray, memoryview, mmap.mmap)) and len(given) > 0:
         return _BufferBytes(given)
     if isinstance(given, (bytearray, memoryview)):

@@ -36,7 +36,8 @@ class Conditions(NamedTuple):
 def postgresql_functions() -> str:
     """The statements that make what conditions for PostgreSQL call, the functions of a schema `odf`.
 
-    Run them once in each database, as a user who may create a schema there.
+    Run them once in each database, as a user who may create a schema there. Where its encoding is not UTF8 they are an
+    error and make nothing. Conditions are asked with `SET LOCAL jit = off`, which no function can say for a query.
     """
     with open(os.path.join(os.path.dirname(os.path.realpath(__file__)), "postgresql.sql"), encoding="utf-8") as file:
         return file.read()
@@ -50,9 +51,11 @@ def form_of(dialect: str, document: Optional[str]) -> int:
     return form
 
 
-def conditions_of(library: Library, handle: Any, form: int, now: str, lines: list[str]) -> Conditions:
+def conditions_of(library: Library, handle: Any, form: int, now: Optional[str], lines: list[str]) -> Conditions:
     """The conditions of the filter of a handle; the lines are those about columns."""
-    how, size = _borrowed_text("\n".join([now, *lines]), "a name"), 4096
+    if now is not None and _borrowed_text(now, "a moment") and (now == "" or "\n" in now):
+        raise library._worded(NotAMoment(), NOT_A_MOMENT, _Answer(), now)
+    how, size = _borrowed_text("\n".join([now or "", *lines]), "a name"), 4096
     while True:
         (room, text), answer = _buffer_of(size), _Answer()
         status = library._call("sql", handle, form, how, text, ctypes.byref(answer))
@@ -60,7 +63,7 @@ def conditions_of(library: Library, handle: Any, form: int, now: str, lines: lis
             break
         size = answer.length
     if status != OK:
-        raise _unsaid(library, status, answer, now)
+        raise _unsaid(library, status, answer, now or "")
     found = json.loads(room[: answer.length])
     return Conditions(*(Statement(**found[it]) if it in found else None for it in Conditions._fields))
 
@@ -69,6 +72,8 @@ def columns_in(columns: Mapping[str, str], document: Optional[str]) -> list[str]
     """The lines about columns, or the name of the one."""
     if document is not None:
         return [document]
+    if any("=" in name for name in columns):
+        raise UnknownColumn()
     lines = [f"{name}={column}" for name, column in columns.items()]
     if any("\n" in line for line in lines):
         raise ValueError("the name of a column has a line feed")
