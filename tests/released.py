@@ -1,0 +1,128 @@
+"""What a release has: its files, its pages with links into it, a list of what is inside (SPDX). For tests/release."""
+import glob
+import gzip
+import hashlib
+import io
+import json
+import os
+import re
+import subprocess
+import tarfile
+import uuid
+
+from built_library import MODULE, TOP
+
+__all__ = ["BILL", "PAGES", "made"]
+PAGES = "share/doc/odfilter"
+BILL = f"{PAGES}/odfilter.spdx.json"
+TOP_PAGES = ["README.md", "CHANGELOG.md", "SECURITY.md"]
+UNKNOWN = {"licenseConcluded": "NOASSERTION", "copyrightText": "NOASSERTION"}
+
+
+def files(program, kit):
+    """The files of a release: where each stands in it, and where it is."""
+    yield "bin/odfilter", program
+    for name in ("lib/libodfilter.a", "lib/libodfilter.so", "lib/libodfilter.so.0", "lib/pkgconfig/odfilter.pc"):
+        yield name, f"{kit}/{name}"
+    yield "include/odfilter.h", f"{TOP}/include/odfilter.h"
+    for path in sorted(it for kind in ("*.py", "*.sql", "py.typed") for it in glob.glob(f"{MODULE}/odfilter/{kind}")):
+        yield f"lib/odfilter/{os.path.basename(path)}", path
+    yield "share/odfilter/postgresql.sql", f"{MODULE}/odfilter/postgresql.sql"
+    yield "share/odfilter/lua/odfilter.lua", f"{TOP}/bindings/lua/odfilter.lua"
+    for folder, _, names in sorted(os.walk(f"{TOP}/share")):
+        yield from ((os.path.relpath(f"{folder}/{name}", TOP), f"{folder}/{name}") for name in sorted(names))
+    for name in ("schema.json", "rows.json"):
+        yield f"share/odfilter/{name}", f"{TOP}/crates/odfilter/data/{name}"
+    for path in [*(f"{TOP}/{name}" for name in TOP_PAGES), *sorted(glob.glob(f"{TOP}/docs/*.*"))]:
+        yield f"{PAGES}/{os.path.relpath(path, TOP)}", path
+    for folder in ("recipes", "examples"):
+        paths = sorted(path for path in glob.glob(f"{TOP}/{folder}/**", recursive=True) if os.path.isfile(path))
+        yield from ((f"{PAGES}/{os.path.relpath(it, TOP)}", it) for it in paths if "__pycache__" not in it)
+
+
+def linked(path, place, places):
+    """A page whose links lead to where the release has what they name; one that it has not leaves its words alone."""
+    def link(found):
+        words, target, anchor = found.groups(default="")
+        if "://" in target or not target:
+            return found[0]
+        there = places.get(os.path.normpath(os.path.join(os.path.dirname(path), target)))
+        return words if there is None else f"[{words}]({os.path.relpath(there, os.path.dirname(place))}{anchor})"
+
+    with open(path, encoding="utf-8") as file:
+        return re.sub(r"(?<!!)\[([^\[\]]*)\]\(([^)\s#]*)(#[^)\s]*)?\)", link, file.read()).encode()
+
+
+def content(path, place, places):
+    if path.endswith(".md"):
+        return linked(path, place, places)
+    with open(path, "rb") as file:
+        return file.read()
+
+
+def crates_below():
+    """The names of the libraries that the program and the C library stand on: those of this repository, and others."""
+    stands_on = {}
+    with open(f"{TOP}/crates.txt", encoding="utf-8") as file:
+        for name, names in re.findall(r"^(\w+)[^:\n]*:(.*)$", file.read(), re.MULTILINE):
+            stands_on[name] = names.split()
+    found, waiting = set(), ["odfilter", "odfilter_c"]
+    while waiting:
+        name = waiting.pop()
+        if name not in found:
+            found.add(name)
+            waiting += stands_on.get(name, [])
+    return sorted(found & stands_on.keys()), sorted(found - stands_on.keys())
+
+
+def bill_of(name, version, kit_version, contents):
+    """What is inside, as SPDX 2.3: the files by their checksums, and the libraries that were compiled in."""
+    listed = []
+    for number, (place, text) in enumerate(sorted(contents.items())):
+        sums = [{"algorithm": of, "checksumValue": hashlib.new(of, text).hexdigest()} for of in ("SHA1", "SHA256")]
+        listed.append({"SPDXID": f"SPDXRef-File-{number}", "fileName": f"./{place}", "checksums": sums, **UNKNOWN})
+    whole = hashlib.sha1("".join(sorted(it["checksums"][0]["checksumValue"] for it in listed)).encode()).hexdigest()
+    general = {"downloadLocation": "NOASSERTION", "licenseDeclared": "NOASSERTION", **UNKNOWN}
+    own, others = crates_below()
+    code = {"packageVerificationCodeValue": whole, "packageVerificationCodeExcludedFiles": [f"./{BILL}"]}
+    packages = [{"SPDXID": "SPDXRef-odfilter", "name": "odfilter", "versionInfo": version, "filesAnalyzed": True,
+                 "packageVerificationCode": code, **general}]
+    for crate, of in [(it, version) for it in own] + [(it, kit_version) for it in others]:
+        reference = "SPDXRef-crate-" + crate.replace("_", "-")
+        packages.append({"SPDXID": reference, "name": crate, "versionInfo": of, "filesAnalyzed": False, **general})
+    pairs = [("SPDXRef-DOCUMENT", "DESCRIBES", "SPDXRef-odfilter")]
+    pairs += [("SPDXRef-odfilter", "CONTAINS", it["SPDXID"]) for it in packages[1:] + listed]
+    keys = ("spdxElementId", "relationshipType", "relatedSpdxElement")
+    about = {"spdxVersion": "SPDX-2.3", "dataLicense": "CC0-1.0", "SPDXID": "SPDXRef-DOCUMENT", "name": name}
+    about["documentNamespace"] = f"urn:uuid:{uuid.uuid5(uuid.NAMESPACE_OID, f'{name} {whole}')}"
+    about["creationInfo"] = {"created": "1970-01-01T00:00:00Z", "creators": ["Tool: odfilter-tests-release"]}
+    parts = {"packages": packages, "files": listed, "relationships": [dict(zip(keys, it)) for it in pairs]}
+    return json.dumps({**about, **parts}, indent=1).encode() + b"\n"
+
+
+def made(folder, program, kit, version):
+    """Makes the archive in a folder, and its checksum beside it: of the same files the same, byte for byte."""
+    name, found = f"odfilter-{version}-x86_64", dict(files(program, kit))
+    places = {os.path.normpath(path): place for place, path in found.items()}
+    contents = {it: content(path, it, places) for it, path in found.items() if not os.path.islink(path)}
+    kit_version = subprocess.run(["rt", "version"], capture_output=True, check=True, timeout=60).stdout.decode().strip()
+    bill = bill_of(name, version, kit_version, contents)
+    packed = io.BytesIO()
+    with gzip.GzipFile("", "wb", 9, packed, mtime=0) as squeezed, tarfile.open(fileobj=squeezed, mode="w") as archive:
+        for place, path in [*found.items(), (BILL, f"{TOP}/README.md")]:
+            text = bill if place == BILL else contents.get(place, b"")
+            entry = archive.gettarinfo(path, f"{name}/{place}")
+            entry.uid = entry.gid = entry.mtime = 0
+            entry.uname = entry.gname = ""
+            entry.mode, entry.size = 0o755 if entry.mode & 0o100 else 0o644, len(text)
+            archive.addfile(entry, io.BytesIO(text))
+    archive_path, text = f"{folder}/{name}.tar.gz", packed.getvalue()
+    for path, written in [(archive_path, text), (f"{archive_path}.sha256", sum_of(text, f"{name}.tar.gz"))]:
+        with open(path, "wb") as out:
+            out.write(written)
+    return archive_path, name
+
+
+def sum_of(text, name):
+    """A line as sha256sum reads it."""
+    return f"{hashlib.sha256(text).hexdigest()}  {name}\n".encode()
