@@ -13,6 +13,9 @@ use std::alloc::{AllocError, Global};
 /// At most so many members are listed.
 const LISTED: usize = 8;
 
+/// At most so many members are compared with a mistyped one, so that a great enumeration makes no sentence dear.
+const COMPARED: usize = 1_024;
+
 /// The names of the first members, with commas between them.
 fn members_in_words(
     alloc: Global,
@@ -42,7 +45,7 @@ fn member_advice(
     literal: &str,
 ) -> Result<String, AllocError> {
     let mut near = NearNames::new(literal);
-    for index in 0..filter.schema.enum_members(id) {
+    for index in 0..filter.schema.enum_members(id).min(COMPARED) {
         if let Some((name, _)) = filter.schema.enum_member(id, index) {
             near.offer(name);
         }
