@@ -193,7 +193,7 @@ class Crate:
         below = [path for path in paths if path.startswith(f"crates/{name}/")]
         self.sources = [path for path in below if path.startswith(f"crates/{name}/src/") and path.endswith(".rt")]
         self.specs = [path for path in below if path.startswith(f"crates/{name}/specs/") and path.endswith(".antt")]
-        self.bugs = [path for path in below if re.fullmatch(r"crates/\w+/must-fail/[^/]+\.edit", path)]
+        self.bugs = [path for path in below if re.fullmatch(r"crates/\w+/(must-fail|planted-bugs)/[^/]+\.edit", path)]
         self.functions = [function for path in self.sources for function in functions_of(path)]
         self.aliases, self.passed_on = {}, {}
         self.root = next((it for it in self.sources if it.endswith("/src/lib.rt")), None)

@@ -1,0 +1,176 @@
+"""The functions of a crate's sources: where each stands, and under which name a check reports it.
+
+Sources are read line by line, as `rt fmt` lays them out: an item of a file or of an `impl` starts at column 0 or 4.
+"""
+import os
+import re
+
+FUNCTION = re.compile(r'( *)(?:pub(?:\([\w: ]+\))? )?(?:const )?(?:unsafe )?(?:extern "C" )?fn (\w+)')
+BLOCK = re.compile(r"(?:pub(?:\([\w: ]+\))? )?(?:unsafe )?(impl|trait)\b(.*)")
+CONSTANT = re.compile(r"( *)(?:pub(?:\([\w: ]+\))? )?(?:const|static) (\w+)\b")
+TYPE = re.compile(r"^(?:pub(?:\([\w: ]+\))? )?(?:struct|enum) (\w+)", re.MULTILINE)
+CYCLE = re.compile(r"#\[cycle\((\w+)\)\]")
+CLAUSE = re.compile(r"\s+(?:requires|ensures|ghost)\b")
+
+
+def text_of(path):
+    with open(path, encoding="utf-8") as text:
+        return text.read()
+
+
+class Function:
+    """A function: its file, the name that a check reports, its lines from its attributes on, and those of its body."""
+
+    def __init__(self, path, name, lines, body, cycle):
+        self.path, self.name, self.lines, self.body, self.cycle = path, name, lines, body, cycle
+        # the other functions of its cycle
+        self.beside = []
+
+    @property
+    def short(self):
+        return self.name.rpartition("::")[2]
+
+    @property
+    def module(self):
+        return module_of(self.path)
+
+    def key(self):
+        """What two bugs of one check may not share: a cycle has one proof of all its functions."""
+        return ("cycle", self.cycle) if self.cycle else (self.path, self.name)
+
+    def is_answer(self, path):
+        """Whether a file of proofs answers goals of this function or of its cycle."""
+        folder, _, file = path.rpartition("/")
+        if file not in ("Answers.antt", "Invariants.antt", "Proof.antt"):
+            return False
+        if self.cycle:
+            return folder == "proofs" or folder.startswith("proofs/") and folder.endswith(f"/+{self.cycle}")
+        # a function that calls itself is a cycle of its own
+        outer, _, short = f"proofs/{self.name}".replace("::", "/").rpartition("/")
+        return folder in (f"{outer}/{short}", f"{outer}/+{short}")
+
+    def has_goal(self, goal):
+        """Whether a goal of its proof is its own: in a cycle of several functions, a goal begins with the name of one."""
+        return not self.beside or goal.partition("-")[0].rpartition("::")[2] == self.short
+
+
+def module_of(path):
+    inner = path.removeprefix("src/").removesuffix(".rt").removesuffix("/mod")
+    return "" if inner in ("lib", "main") else inner.replace("/", "::")
+
+
+def words_of(text, parameters=()):
+    """A type or a trait in one word: of each path the last segment, without lifetimes and parameters of the block."""
+    marked = re.sub(r"'\w+", "", text).replace("&", " Ref ").replace("[", " Slice ")
+    words = re.findall(r"\w+(?!\w*::)", marked)
+    return "".join(it[0].upper() + it[1:] for it in words if it not in parameters)
+
+
+def parameters_of(rest):
+    """The parameters of a block by their names, and what follows them."""
+    depth = 0
+    for at, letter in enumerate(rest if rest.startswith("<") else ""):
+        depth += (letter == "<") - (letter == ">" and rest[at - 1] != "-")
+        if depth == 0:
+            return re.findall(r"(?:^<|, )(\w+)", rest[:at]), rest[at + 1 :]
+    return [], rest
+
+
+def name_of_block(word, rest):
+    """The type of a block and its trait, in one word as a check has it."""
+    parameters, rest = parameters_of(rest)
+    rest = rest.partition("{")[0].partition(" where ")[0].strip()
+    if word == "trait":
+        return re.match(r"\w+", rest)[0]
+    trait, found, owner = rest.partition(" for ")
+    owner, trait = (owner, trait) if found else (trait, "")
+    return words_of(re.sub(r"<.*", "", owner)) + words_of(trait, parameters)
+
+
+def end_of(lines, start, indent):
+    """The last line of a function: with its closing brace, or the semicolon of one that has no body."""
+    for number in range(start, len(lines)):
+        is_last = lines[number] in (f"{indent}}}", f"{indent}{{}}")
+        is_last = lines[number].endswith((";", "{}")) if number == start else is_last
+        if is_last or CLAUSE.match(lines[number]) and lines[number].endswith((";", "} {}")):
+            return number
+    return len(lines) - 1
+
+
+def body_of(lines, start, end, indent):
+    """The line on which the body of a function begins: after its signature and its clauses."""
+    for number in range(start, end + 1):
+        is_header = lines[number].endswith(" {") and not CLAUSE.match(lines[number])
+        if is_header or lines[number] in (f"{indent}{{", f"{indent}{{}}"):
+            return number
+    return end
+
+
+def functions_in(path, text):
+    """The functions of a source file, in the order in which they stand."""
+    lines, owner, after = text.split("\n"), "", 0
+    for at, line in enumerate(lines):
+        block = BLOCK.match(line)
+        owner = name_of_block(*block.groups()) if block else "" if line == "}" else owner
+        found = FUNCTION.match(line)
+        if not found or len(found[1]) not in (0, 4) or bool(found[1]) != bool(owner):
+            continue
+        end = end_of(lines, at, found[1])
+        if not lines[end].endswith("}"):
+            continue
+        above = lines[after:at]
+        first = at - next((back for back, it in enumerate(reversed(above)) if it in ("", f"{found[1]}}}")), len(above))
+        cycle = CYCLE.search("\n".join(lines[first:at]))
+        name = "::".join(filter(None, [module_of(path), owner, found[2]]))
+        body = body_of(lines, at, end, found[1])
+        yield Function(path, name, (first + 1, end + 1), (body + 1, end + 1), cycle and cycle[1])
+        after = end + 1
+
+
+def constants_in(text):
+    """The constants of a source file: the name of each, and its first and last line."""
+    lines = text.split("\n")
+    for at, line in enumerate(lines):
+        found = CONSTANT.match(line)
+        if found and not FUNCTION.match(line):
+            end = next((it for it in range(at, len(lines)) if lines[it].endswith(";")), at)
+            yield found[2], (at + 1, end + 1)
+
+
+class Sources:
+    """The sources of a crate, each a text by its path from the crate's folder."""
+
+    def __init__(self, folder):
+        found = [os.path.join(at, name) for at, _, names in os.walk(f"{folder}/src") for name in names]
+        self.texts = {os.path.relpath(path, folder): text_of(path) for path in sorted(found) if path.endswith(".rt")}
+        self.functions = {path: list(functions_in(path, text)) for path, text in self.texts.items()}
+        homes = self.homes()
+        for function in (listed := [it for path in self.texts for it in self.functions[path]]):
+            *_, owner, short = ["", *function.name.split("::")]
+            # a method is reported below the module of its type
+            if function.module not in homes.get(owner, [function.module]) and len(homes[owner]) == 1:
+                function.name = "::".join(filter(None, [homes[owner][0], owner, short]))
+            function.beside = [it for it in listed if it.cycle and it.cycle == function.cycle and it is not function]
+
+    def homes(self):
+        """The modules that declare a type, by its name."""
+        found = {}
+        for path, text in self.texts.items():
+            for name in TYPE.findall(text):
+                found.setdefault(name, []).append(module_of(path))
+        return found
+
+    def users_of(self, constant):
+        """The functions that a constant goes into, by itself or through other constants."""
+        names, seen = {constant}, set()
+        while names - seen:
+            seen |= names
+            word = re.compile(rf"\b({'|'.join(names)})\b")
+            for text in self.texts.values():
+                lines = text.split("\n")
+                for name, (first, last) in constants_in(text):
+                    names |= {name} if word.search("\n".join(lines[first - 1 : last])) else set()
+        return [it for path in self.texts for it in self.functions[path] if word.search(self.body_text(it))]
+
+    def body_text(self, function):
+        return "\n".join(self.texts[function.path].split("\n")[function.body[0] - 1 : function.body[1]])
