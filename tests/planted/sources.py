@@ -50,7 +50,7 @@ class Function:
         return folder in (f"{outer}/{short}", f"{outer}/+{short}")
 
     def has_goal(self, goal):
-        """Whether a goal of its proof is its own: in a cycle of several functions, a goal begins with the name of one."""
+        """Whether a goal of its proof is its own: in a cycle of several functions a goal begins with one's name."""
         return not self.beside or goal.partition("-")[0].rpartition("::")[2] == self.short
 
 
