@@ -37,17 +37,17 @@ class Trial:
 
     def edits(self):
         """The edits that fit the sources; each of the others has failed."""
-        sources, found = Sources(self.repository.folder(self.name)), []
+        sources, found, left = Sources(self.repository.folder(self.name)), [], set(self.wanted)
         for path in files_of(self.repository.folder(self.name)):
             name = os.path.basename(path).removesuffix(".edit")
             if self.wanted and name not in self.wanted:
                 continue
-            self.wanted.discard(name)
+            left.discard(name)
             try:
                 found.append(Edit(path, sources))
             except FaultyEdit as fault:
                 self.fails(name, f"FAULTY EDIT: {fault}")
-        for name in sorted(self.wanted):
+        for name in sorted(left):
             self.fails(name, "there is no such edit")
         return found
 
