@@ -24,7 +24,7 @@ def files(program, kit):
     yield "bin/odfilter", program
     for name in ("lib/libodfilter.a", "lib/libodfilter.so", "lib/libodfilter.so.0", "lib/pkgconfig/odfilter.pc"):
         yield name, f"{kit}/{name}"
-    yield "include/odfilter.h", f"{TOP}/include/odfilter.h"
+    yield from ((f"include/odfilter.{kind}", f"{TOP}/include/odfilter.{kind}") for kind in ("h", "json"))
     for path in sorted(it for kind in ("*.py", "*.sql", "py.typed") for it in glob.glob(f"{MODULE}/odfilter/{kind}")):
         yield f"lib/odfilter/{os.path.basename(path)}", path
     yield "share/odfilter/postgresql.sql", f"{MODULE}/odfilter/postgresql.sql"
