@@ -61,7 +61,28 @@ static odfilter_bytes bytes_of(sqlite3_value *value)
     return bytes;
 }
 
-/* the error of a statement: the name of the fault and a sentence about it, or the name of a status without one */
+/* the name of a status as those of faults are written, into as many bytes: UnknownType of UNKNOWN_TYPE, Json of
+ * JSON_FAULT; its length */
+static size_t name_of_status(uint32_t status, char *name, size_t size)
+{
+    odfilter_buffer buffer = {name, size};
+    odfilter_answer named;
+    size_t read, written = 0, length;
+    int is_first = 1;
+    if (odfilter_status_name(status, buffer, &named) != ODFILTER_OK)
+        return 0;
+    length = named.length;
+    if (length > 6 && !memcmp(name + length - 6, "_FAULT", 6))
+        length -= 6;
+    for (read = 0; read < length; read++) {
+        if (name[read] != '_')
+            name[written++] = is_first ? name[read] : (char)(name[read] - 'A' + 'a');
+        is_first = name[read] == '_';
+    }
+    return written;
+}
+
+/* the error of a statement: the name of the fault, or of a status without faults, and a sentence about it */
 static void refuse(sqlite3_context *context, const odfilter_handle *type, uint32_t status, odfilter_bytes about,
                    const odfilter_answer *fault)
 {
@@ -74,7 +95,7 @@ static void refuse(sqlite3_context *context, const odfilter_handle *type, uint32
         return;
     }
     if (odfilter_fault_name(status, fault->fault, of_name, &named) != ODFILTER_OK)
-        odfilter_status_name(status, of_name, &named);
+        named.length = name_of_status(status, name, sizeof name);
     if (odfilter_fault_text(type, status, about, of_sentence, fault, &written) != ODFILTER_OK)
         written.length = 0;
     text = sqlite3_mprintf("odfilter: %.*s%s%.*s", (int)named.length, name, written.length ? ": " : "",
