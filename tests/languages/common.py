@@ -92,5 +92,5 @@ def prints_page(room, page, language, place, words, **how):
         out.write(source)
     for name in ("schema.json", "rows.json"):
         shutil.copy(f"{DATA}/{name}", room)
-    status, out, err = run(words, cwd=room, **how)
-    yield f"the program of {os.path.relpath(page, TOP)}", (status, out.decode(), err) == (0, wanted, ""), (status, out, err)
+    status, out, err = said = run(words, cwd=room, **how)
+    yield f"the program of {os.path.relpath(page, TOP)}", (status, out.decode(), err) == (0, wanted, ""), said

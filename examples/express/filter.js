@@ -1,0 +1,52 @@
+'use strict';
+const { FilterRefused, QueryRefused } = require('odfilter');
+
+/** The standard's error body, by 400. */
+function refuse(response, code, message, innererror) {
+  response.statusCode = 400;
+  response.setHeader('Content-Type', 'application/json');
+  response.end(JSON.stringify({ error: { code, message, target: '$filter', innererror } }));
+}
+
+/** The request's address with another text as the value of its filter. */
+function withValue(url, filter, text) {
+  const start = url.indexOf('?') + 1;
+  const [from, to] = filter.value;
+  return url.slice(0, start + from) + encodeURIComponent(text) + url.slice(start + to);
+}
+
+/**
+ * Middleware for Express and Connect. It passes on requests whose filter is accepted and has at most so many nodes, with
+ * its canonical text in the address, and answers others by 400. A handler has the filter as `request.odataFilter`, until
+ * the answer is finished.
+ */
+function checked(entities, { mostNodes = 100 } = {}) {
+  return (request, response, next) => {
+    const mark = request.url.indexOf('?');
+    let filter;
+    try {
+      filter = mark < 0 ? undefined : entities.checkUrl(Buffer.from(request.url.slice(mark + 1), 'latin1'));
+    } catch (error) {
+      if (error instanceof FilterRefused) {
+        refuse(response, error.code, error.message, { span: error.byteSpan, pointer: error.pointed });
+      } else if (error instanceof QueryRefused) {
+        refuse(response, error.code, error.message);
+      } else {
+        next(error);
+      }
+      return;
+    }
+    if (filter !== undefined) {
+      response.on('close', () => filter.dispose());
+      if (filter.nodeCount > mostNodes) {
+        refuse(response, 'TooComplex', 'The filter has too many nodes.');
+        return;
+      }
+      request.odataFilter = filter;
+      request.url = withValue(request.url, filter, filter.canonical);
+    }
+    next();
+  };
+}
+
+module.exports = { checked };
