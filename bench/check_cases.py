@@ -4,7 +4,7 @@ import os
 
 TOP = os.path.dirname(os.path.dirname(os.path.realpath(__file__)))
 MINI, ITEM = f"{TOP}/crates/odfilter/data/schema.json", "Mini.Item"
-SHOP, PRODUCT = f"{TOP}/crates/conformance/data/schemas/shop.json", "Shop.Product"
+SHOP, PRODUCT = f"{TOP}/tests/suite/schemas/shop.json", "Shop.Product"
 ORDER = "Big.Order"
 GARDEN = "contains(tolower(Name),'garden') and Total gt 1000 and Lines/any(l:l/Qty gt 3 and l/Price le 500) or "
 OPEN = "Status eq 'open' and startswith(ShipTo/City,'Os') and year(Created) eq "

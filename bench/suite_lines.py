@@ -1,4 +1,4 @@
-"""The rows of the suite (crates/conformance/data) that fit, by schema and type, with the case that asks about each."""
+"""The rows of the suite (tests/suite) that fit, by schema and type, with the case that asks about each."""
 import os
 import sys
 

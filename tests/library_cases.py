@@ -1,4 +1,4 @@
-"""The suite of cases (crates/conformance/data) and the whole queries of url_cases as questions to a client of the C
+"""The suite of cases (tests/suite) and the whole queries of url_cases as questions to a client of the C
 library, and what it answers beside what is wanted.
 
 A client is a program that is given a file of questions and writes an answer to each, one after another. Both are

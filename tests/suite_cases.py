@@ -1,5 +1,5 @@
-"""The suite of cases (crates/conformance/data), read for whoever is asked: tests/conformance asks a command line,
-tests/c_library the clients of the C library.
+"""The suite of cases (tests/suite), read for whoever is asked: tests/conformance asks a command line, tests/c_library
+the clients of the C library, tests/suite_calls the public calls (call_cases.py).
 
 `answers(asked, case)` yields of a case what is asked, the wanted answer and that of `asked`, an object with these
 methods. Texts and documents are as cases have them (`bytes_of` and `document_of` make bytes of one), rows are bytes.
@@ -20,7 +20,7 @@ Each may answer UNASKED, or something of its own that stands for an answer which
 import json
 import os
 
-DATA = os.path.join(os.path.dirname(os.path.dirname(os.path.realpath(__file__))), "crates/conformance/data")
+DATA = os.path.join(os.path.dirname(os.path.realpath(__file__)), "suite")
 LETTERS = {"T": True, "F": False, "N": None, "O": "Overflow", "Z": "DivideByZero"}
 FAULTS = {".": True, "M": "Missing", "W": "WrongKind", "N": "NullNotAllowed", "O": "OutOfRange", "B": "BadText"}
 # the answer where nothing can be asked, and what is wanted where any fault will do
@@ -215,8 +215,9 @@ def differs(wanted, got):
     return wanted != got or isinstance(wanted, bool) != isinstance(got, bool)
 
 
-def cases():
-    """The cases of the suite, each with its file and line."""
-    for name in sorted(os.listdir(f"{DATA}/cases")):
-        with open(f"{DATA}/cases/{name}", encoding="utf-8") as file:
-            yield from ((f"cases/{name}:{number}", json.loads(line)) for number, line in enumerate(file, 1))
+def cases(path=None):
+    """The cases of the suite, or of one file, each with its file and line."""
+    files = [(f"cases/{name}", f"{DATA}/cases/{name}") for name in sorted(os.listdir(f"{DATA}/cases"))]
+    for name, at in [(os.path.basename(path), path)] if path else files:
+        with open(at, encoding="utf-8") as file:
+            yield from ((f"{name}:{number}", json.loads(line)) for number, line in enumerate(file, 1))

@@ -1,6 +1,6 @@
 """The cases of tests/url_cases.jsonl: whole queries, and which filter each has.
 
-Each line is a case: `name`, [`client`, whose queries look so,] `schema` and `type` of crates/conformance/data, and
+Each line is a case: `name`, [`client`, whose queries look so,] `schema` and `type` of tests/suite, and
 `query`, where a lone surrogate stands for a byte that is no UTF-8, as Python's surrogateescape has it. Then one of:
 
 - `text`, `piece`, `value`: the filter's text, decoded, and the bytes of the query where its option and its value stand;

@@ -1,101 +1,85 @@
 //! What a filter costs on a row.
-use crate::filters::{judged, one_of, spelled, spelled_bad_row};
-use crate::trouble::{Trouble, owned};
+use crate::outcomes::OnRow;
 use edm_rows::{HeldSchema, LayoutReader};
-use edm_values::Moment;
 use odata_eval::Verdict;
 use odata_filter::{BadRow, BoundedJudge, FilterRows, row_layout_of};
 use odata_typing::Checked;
-use serde_json::Value;
-use std::alloc::Global;
+use std::alloc::{AllocError, Global};
 
-/// What is reported about a row within a bound, if that is enough.
-fn spelled_within(reported: &Result<Option<Verdict>, BadRow>) -> Option<&'static str> {
-    match reported {
-        Ok(Some(verdict)) => Some(spelled(Ok(*verdict))),
-        Ok(None) => None,
-        Err(why) => Some(spelled_bad_row(why)),
-    }
-}
-
-/// The one answer within a bound, if there is one, of a line that is judged twice by what is kept from row to row of the
-/// filter.
-fn twice_within(
-    alloc: Global,
-    checked: &Checked<'_>,
-    line: &[u8],
-    now: &Moment,
-    most: u64,
-) -> Option<&'static str> {
-    let mut rows = FilterRows::new(alloc, checked);
-    let first = spelled_within(&rows.judge_within(checked, now, most, line))?;
-    let second = spelled_within(&rows.judge_within(checked, now, most, line));
-    Some(one_of(first, second.unwrap_or("no answer")))
-}
-
-/// That answer, where there is none within a smaller bound.
-fn within_again(
-    alloc: Global,
-    checked: &Checked<'_>,
-    line: &[u8],
-    now: &Moment,
-    most: u64,
-) -> &'static str {
-    let less = if most > 0 {
-        twice_within(alloc, checked, line, now, most - 1)
-    } else {
-        None
-    };
-    match less {
-        Some("memory") => "memory",
-        Some(_) => "an answer within less",
-        None => twice_within(alloc, checked, line, now, most).unwrap_or("no answer"),
-    }
-}
-
-/// The most that a case says of what a filter costs.
+/// The most that a filter costs where that is asked.
 const MOST: u64 = 100_000;
 
-/// The least bound within which a line has an answer, and that.
-fn least_bound(
-    alloc: Global,
-    checked: &Checked<'_>,
-    line: &[u8],
-    moment: &Moment,
-) -> Option<(u64, &'static str)> {
+/// Appends what is reported about a row within a bound.
+fn push_within(out: &mut String, said: &Result<Option<Verdict>, BadRow>) -> Result<(), AllocError> {
+    match said {
+        Ok(Some(verdict)) => write!(out, ", {verdict:?}"),
+        Ok(None) => out.push_str(", none"),
+        Err(why) => write!(out, ", {why}"),
+    }
+}
+
+/// The least bound within which a line has an answer.
+fn least_bound(alloc: Global, checked: &Checked<'_>, on: OnRow<'_>) -> u64 {
     let layout = row_layout_of(alloc, checked, HeldSchema::Borrowed(checked.schema()));
     let mut reader = LayoutReader::new(alloc);
     for most in 0..MOST {
         let by = BoundedJudge {
             checked,
-            moment,
+            moment: on.now,
             most,
         };
-        if let Some(said) = spelled_within(&by.judge(&layout, &mut reader, line)) {
-            return Some((most, said));
+        if !matches!(by.judge(&layout, &mut reader, on.line), Ok(None)) {
+            return most;
         }
     }
-    None
+    MOST
 }
 
-/// What a filter costs on a row: the least bound within which the row has an answer, which is that without a bound.
-pub(crate) fn cost(
+/// Appends what is reported about a line within a bound by a reader of any filter's rows.
+fn push_by_itself(
+    out: &mut String,
     alloc: Global,
     checked: &Checked<'_>,
-    row: &Value,
-    now: &Moment,
-) -> Result<String, Trouble> {
-    let line = row.to_string(alloc)?;
-    let reported = judged(alloc, checked, line.as_bytes(), now, 0);
-    let Some((most, said)) = least_bound(alloc, checked, line.as_bytes(), now) else {
-        return owned(alloc, "more than is tried");
+    on: OnRow<'_>,
+    most: u64,
+) -> Result<(), AllocError> {
+    let layout = row_layout_of(alloc, checked, HeldSchema::Borrowed(checked.schema()));
+    let mut reader = LayoutReader::new(alloc);
+    let by = BoundedJudge {
+        checked,
+        moment: on.now,
+        most,
     };
-    let again = within_again(alloc, checked, line.as_bytes(), now, most);
-    if said == "memory" || reported == "memory" || again == "memory" {
-        Err(Trouble::Memory)
-    } else if said == reported && again == said {
-        Ok(format!(in alloc; "{most}")?)
-    } else {
-        Ok(format!(in alloc; "{most}, but {said} and {again} within it, and {reported} without")?)
+    push_within(out, &by.judge(&layout, &mut reader, on.line))
+}
+
+/// Appends the same of a line that is judged twice by what is kept from row to row of the filter.
+fn push_by_rows(
+    out: &mut String,
+    alloc: Global,
+    checked: &Checked<'_>,
+    on: OnRow<'_>,
+    most: u64,
+) -> Result<(), AllocError> {
+    let mut rows = FilterRows::new(alloc, checked);
+    push_within(out, &rows.judge_within(checked, on.now, most, on.line))?;
+    push_within(out, &rows.judge_within(checked, on.now, most, on.line))
+}
+
+/// Appends the least bound within which the row has an answer, and what is reported within it by three ways; then by
+/// two of them within one less.
+pub(crate) fn push_cost(
+    out: &mut String,
+    alloc: Global,
+    checked: &Checked<'_>,
+    on: OnRow<'_>,
+) -> Result<(), AllocError> {
+    let most = least_bound(alloc, checked, on);
+    write!(out, "{most}")?;
+    push_by_itself(out, alloc, checked, on, most)?;
+    push_by_rows(out, alloc, checked, on, most)?;
+    if most > 0 {
+        push_by_rows(out, alloc, checked, on, most - 1)?;
     }
+    Ok(())
 }

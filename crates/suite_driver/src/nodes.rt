@@ -1,12 +1,11 @@
 //! The nodes of a checked filter: where they stand, their types and slots.
-use crate::trouble::Trouble;
 use csdl_schema::{EnumId, Property, PropertyKind, Schema, TypeId};
 use edm_values::Prim;
 use odata_typing::{Checked, EdmType, ValueType};
-use std::alloc::{AllocError, Global};
+use std::alloc::AllocError;
 
 /// The name of a primitive type, as `Edm.Int32`.
-pub fn prim_name(prim: Prim) -> &'static str {
+fn prim_name(prim: Prim) -> &'static str {
     match prim {
         Prim::Bool => "Edm.Boolean",
         Prim::Byte => "Edm.Byte",
@@ -22,12 +21,12 @@ pub fn prim_name(prim: Prim) -> &'static str {
 }
 
 /// The name of an enumeration, with its namespace.
-pub fn enumeration_name(schema: &Schema, id: EnumId) -> &str {
+pub(crate) fn enumeration_name(schema: &Schema, id: EnumId) -> &str {
     schema.enum_name(id).unwrap_or("no enumeration")
 }
 
 /// The name of an entity or complex type, with its namespace.
-pub fn structured_name(schema: &Schema, id: TypeId) -> &str {
+pub(crate) fn structured_name(schema: &Schema, id: TypeId) -> &str {
     schema.type_name(id).unwrap_or("no type")
 }
 
@@ -79,26 +78,19 @@ fn has_none_past(checked: &Checked<'_>, place: usize) -> bool {
         && checked.level_of(usize::MAX).is_none()
 }
 
-/// The nodes in pre-order, as `0..7 Edm.Boolean, 0..2 Edm.Int32 slot 1, 6..7 Edm.Int32`.
-pub fn reported_nodes(alloc: Global, checked: &Checked<'_>) -> Result<String, Trouble> {
-    let mut text = String::new(alloc);
+/// Appends the nodes in pre-order, as `0..7 Edm.Boolean, 0..2 Edm.Int32 slot 1, 6..7 Edm.Int32`.
+pub(crate) fn push_nodes(out: &mut String, checked: &Checked<'_>) -> Result<(), AllocError> {
     for node in 0..checked.node_count() {
         if node > 0 {
-            text.push_str(", ")?;
+            out.push_str(", ")?;
         }
-        push_node(&mut text, checked, node)?;
+        push_node(out, checked, node)?;
     }
-    if !has_none_past(checked, checked.node_count()) {
-        text.push_str(", and more past the last one")?;
+    if has_none_past(checked, checked.node_count()) {
+        Ok(())
+    } else {
+        out.push_str(", and more past the last one")
     }
-    Ok(text)
-}
-
-/// The name of the second node's type.
-pub fn second_type(alloc: Global, checked: &Checked<'_>) -> Result<String, Trouble> {
-    let mut text = String::new(alloc);
-    push_type(&mut text, checked.schema(), checked.type_of(1))?;
-    Ok(text)
 }
 
 fn kind_name(schema: &Schema, kind: PropertyKind) -> &str {
@@ -113,7 +105,7 @@ fn kind_name(schema: &Schema, kind: PropertyKind) -> &str {
 
 /// Appends a property's kind, and of a navigation property its target, if it has one. `?` follows if it is nullable,
 /// and `*` if there are many.
-pub fn push_property(
+pub(crate) fn push_property(
     text: &mut String,
     schema: &Schema,
     property: &Property,

@@ -1,70 +1,61 @@
-//! Command lines and query strings: what is read of them, and what a run says.
-use crate::spelled_numbers::shown_by_number;
-use crate::trouble::{Trouble, owned};
-use odata_filter::command_line::{Plan, PlanFault};
-use odata_filter::{FaultKind, Numbered, plan, run};
-use odata_queries::{QueryFault, filter_of_query};
-use std::alloc::Global;
+//! Runs over lines that a reader gives and over a collection, into a buffer that is allocated before.
+use crate::device_runs::{push_devices, push_logged};
+use crate::moments::moment_of;
+use crate::question::Question;
+use edm_values::Moment;
+use odata_filter::{RunFault, Tally, filter_collection, filter_lines};
+use odata_typing::Checked;
+use std::alloc::{AllocError, Global};
+use std::io::Read;
 
-/// The refusal of a query string.
-fn refused_query(alloc: Global, fault: &QueryFault) -> Result<String, Trouble> {
-    if matches!(fault, QueryFault::Memory) {
-        return Err(Trouble::Memory);
-    }
-    let shown = format!(in alloc; "{fault}")?;
-    let shown = shown_by_number(alloc, shown, FaultKind::Query, fault.number())?;
-    Ok(format!(in alloc; "refused {shown}")?)
-}
+/// How many bytes a run may write before the buffer grows.
+const KEPT_BYTES: usize = 256;
 
-/// Returns the filter of a query string, or its refusal.
-pub fn query_filter(alloc: Global, query: &str) -> Result<String, Trouble> {
-    match filter_of_query(alloc, query.as_bytes()) {
-        Ok(Some(filter)) => Ok(filter),
-        Ok(None) => owned(alloc, "no filter"),
-        Err(fault) => refused_query(alloc, &fault),
+/// Appends how many rows a run kept and judged, or its fault, of memory with the line.
+pub(crate) fn push_ended(
+    out: &mut String,
+    ended: &Result<Tally, RunFault>,
+) -> Result<(), AllocError> {
+    match ended {
+        Ok(tally) => write!(out, "{} of {}", tally.kept, tally.rows),
+        Err(RunFault::Memory { line }) => write!(out, "memory {line}"),
+        Err(fault) => write!(out, "{fault}"),
     }
 }
 
-/// What is said of words that have no plan.
-fn no_plan(alloc: Global, fault: &PlanFault) -> Result<String, Trouble> {
-    match fault {
-        PlanFault::Memory => Err(Trouble::Memory),
-        _ => Ok(format!(in alloc; "{fault}")?),
-    }
-}
-
-/// Returns the plan of words, the program's name first.
-pub fn plan_answer(alloc: Global, words: &[&str]) -> Result<String, Trouble> {
-    match &plan(alloc, words) {
-        Ok(plan) => Ok(format!(in alloc; "{plan:?}")?),
-        Err(fault) => no_plan(alloc, fault),
-    }
-}
-
-/// What both streams were given, and the status.
-fn reported(alloc: Global, out: &[u8], err: &[u8], status: u8) -> Result<String, Trouble> {
-    let out = String::from_utf8_lossy(alloc, out)?;
-    let err = String::from_utf8_lossy(alloc, err)?;
-    Ok(format!(in alloc; "{out}{err}status {status}")?)
-}
-
-/// What a run says, into buffers that are allocated before it begins.
-fn said(alloc: Global, plan: &Plan<'_>, document: &[u8], rows: &[u8]) -> Result<String, Trouble> {
-    let mut out = Vec::with_capacity(alloc, 1_024)?;
-    let mut err = Vec::with_capacity(alloc, 1_024)?;
-    let status = run(alloc, plan, document, Some(rows), &mut out, &mut err);
-    reported(alloc, out.as_slice(), err.as_slice(), status)
-}
-
-/// Returns standard output, standard error and status of a run by words, over a document and rows.
-pub fn run_answer(
+/// Appends what a run over lines ends with that come in two pieces, or a run over a collection, and what it wrote.
+fn push_run_at(
+    out: &mut String,
     alloc: Global,
-    words: &[&str],
-    document: &[u8],
-    rows: &[u8],
-) -> Result<String, Trouble> {
-    match &plan(alloc, words) {
-        Ok(plan) => said(alloc, plan, document, rows),
-        Err(fault) => no_plan(alloc, fault),
+    checked: &Checked<'_>,
+    now: &Moment,
+    question: &Question<'_>,
+) -> Result<(), AllocError> {
+    let mut kept = Vec::with_capacity(alloc, KEPT_BYTES)?;
+    let ended = if question.word == "lines" {
+        let rows = question.bytes.chain(question.second.as_bytes());
+        filter_lines(alloc, checked, now, rows, &mut kept)
+    } else {
+        filter_collection(alloc, checked, now, question.bytes, &mut kept)
+    };
+    push_ended(out, &ended)?;
+    let text = String::from_utf8_lossy(alloc, kept.as_slice())?;
+    write!(out, "\n{text}")
+}
+
+/// Appends what a run of a filter ends with, and what it wrote, at the beginning of the year 1.
+pub(crate) fn push_run_of(
+    out: &mut String,
+    alloc: Global,
+    checked: &Checked<'_>,
+    question: &Question<'_>,
+) -> Result<(), AllocError> {
+    match &moment_of("") {
+        Some(now) => match question.word {
+            "devices" => push_devices(out, alloc, checked, now, question),
+            "logged" => push_logged(out, alloc, checked, now, question),
+            _ => push_run_at(out, alloc, checked, now, question),
+        },
+        None => out.push_str("no moment"),
     }
 }

@@ -1,92 +1,93 @@
-//! Documents, and what the look-ups of their schemas find.
-use crate::filters::schema_of;
+//! What the look-ups of a schema find.
 use crate::nodes::{enumeration_name, push_property, structured_name};
-use crate::spelled_numbers::shown_by_number;
-use crate::trouble::{Trouble, owned};
-use csdl_schema::{Schema, SchemaFault, TypeId};
-use odata_filter::{FaultKind, Numbered};
-use std::alloc::{AllocError, Global};
+use crate::question::{Question, number_of};
+use csdl_schema::{Schema, TypeId};
+use std::alloc::AllocError;
 
-/// What is shown of a document's fault.
-fn shown_fault(alloc: Global, fault: &SchemaFault) -> Result<String, Trouble> {
-    if matches!(fault, SchemaFault::Memory) {
-        return Err(Trouble::Memory);
-    }
-    let shown = format!(in alloc; "{fault}")?;
-    shown_by_number(alloc, shown, FaultKind::Schema, fault.number())
-}
-
-/// `accepted`, or the fault of a document.
-pub fn fault_of(alloc: Global, document: &[u8]) -> Result<String, Trouble> {
-    match Schema::read(alloc, document) {
-        Ok(_) => owned(alloc, "accepted"),
-        Err(fault) => shown_fault(alloc, &fault),
-    }
-}
-
-/// Returns the whole name of the entity or complex type that goes by a name.
-pub fn whole_type_name<'s>(schema: &'s Schema, name: &str) -> &'s str {
-    match schema.type_named(name) {
-        Some(id) => structured_name(schema, id),
-        None => "none",
-    }
-}
-
-/// Returns the whole name of the enumeration that goes by a name.
-pub fn whole_enumeration_name<'s>(schema: &'s Schema, name: &str) -> &'s str {
-    match schema.enum_named(name) {
+/// Appends what goes by a name: the whole names of the entity or complex type and of the enumeration, and whether it is
+/// an entity type.
+pub(crate) fn push_named(out: &mut String, schema: &Schema, name: &str) -> Result<(), AllocError> {
+    let (found, is_entity) = match schema.type_named(name) {
+        Some(id) => (
+            structured_name(schema, id),
+            schema.holds(id) && schema.is_entity(id),
+        ),
+        None => ("none", false),
+    };
+    let enumeration = match schema.enum_named(name) {
         Some(id) => enumeration_name(schema, id),
         None => "none",
+    };
+    write!(out, "{found} {enumeration} {is_entity}")
+}
+
+/// Appends the number of a text in an enumeration.
+pub(crate) fn push_number(
+    out: &mut String,
+    schema: &Schema,
+    question: &Question<'_>,
+) -> Result<(), AllocError> {
+    let Some(id) = schema.enum_named(question.text) else {
+        return out.push_str("no enumeration");
+    };
+    match schema.enum_value(id, question.second) {
+        Some(number) => write!(out, "{number}"),
+        None => out.push_str("null"),
     }
 }
 
-/// Returns whether an entity type goes by a name.
-pub fn is_entity_type(schema: &Schema, name: &str) -> bool {
-    match schema.type_named(name) {
-        Some(id) => schema.holds(id) && schema.is_entity(id),
-        None => false,
+/// Appends the slot of a name in a type.
+pub(crate) fn push_slot_of(
+    out: &mut String,
+    schema: &Schema,
+    id: TypeId,
+    name: &str,
+) -> Result<(), AllocError> {
+    match schema.slot(id, name) {
+        Some(slot) => write!(out, "{slot}"),
+        None => out.push_str("null"),
     }
 }
 
 /// Appends the property at a slot, as `Name Edm.String`.
-fn push_slot(
-    text: &mut String,
-    schema: &Schema,
-    id: TypeId,
-    slot: usize,
-) -> Result<(), AllocError> {
+fn push_slot(out: &mut String, schema: &Schema, id: TypeId, slot: usize) -> Result<(), AllocError> {
     if slot >= schema.slots(id) {
         return Ok(());
     }
     let name = schema.slot_name(id, slot);
-    let is_its = schema.slot(id, name) == Some(slot);
-    write!(
-        text,
-        "{}{name} ",
-        if is_its { "" } else { "another slot of " }
-    )?;
-    push_property(text, schema, schema.property(id, slot))
+    if schema.slot(id, name) != Some(slot) {
+        out.push_str("another slot of ")?;
+    }
+    write!(out, "{name} ")?;
+    push_property(out, schema, schema.property(id, slot))
 }
 
-/// Returns the slots of a type, as `Name Edm.String, Qty Edm.Int32?`.
-pub fn reported_slots(alloc: Global, schema: &Schema, id: TypeId) -> Result<String, Trouble> {
-    let mut text = String::new(alloc);
+/// Appends the slots of a type, as `Name Edm.String, Qty Edm.Int32?`.
+pub(crate) fn push_slots(out: &mut String, schema: &Schema, id: TypeId) -> Result<(), AllocError> {
     for slot in 0..schema.slots(id) {
         if slot > 0 {
-            text.push_str(", ")?;
+            out.push_str(", ")?;
         }
-        push_slot(&mut text, schema, id, slot)?;
+        push_slot(out, schema, id, slot)?;
     }
-    Ok(text)
+    Ok(())
 }
 
-/// Returns the slots of the type that goes by a name in a document.
-pub fn slots_of(alloc: Global, document: &[u8], name: &str) -> Result<String, Trouble> {
-    let schema = schema_of(alloc, document)?;
-    reported_slots(alloc, &schema, type_of(&schema, name)?)
-}
-
-/// Returns the type that goes by a name.
-pub fn type_of(schema: &Schema, name: &str) -> Result<TypeId, Trouble> {
-    schema.type_named(name).ok_or(Trouble::NoSuchType)
+/// Appends how many properties the piece from a slot has, and of its first, if it has one, the name and whether it is
+/// the property at that slot.
+pub(crate) fn push_piece(
+    out: &mut String,
+    schema: &Schema,
+    id: TypeId,
+    slot: &str,
+) -> Result<(), AllocError> {
+    let slot = number_of(slot);
+    let piece = schema.properties_from(id, slot);
+    write!(out, "{}", piece.len())?;
+    if slot < schema.slots(id) && 0 < piece.len() {
+        let (name, property) = piece.entry(0);
+        let is_it = *property == *schema.property(id, slot);
+        write!(out, " {name} {is_it}")?;
+    }
+    Ok(())
 }

@@ -51,7 +51,7 @@ fn push_one(line: &mut String, node: &Node) -> Result<(), AllocError> {
 
 /// Appends a node and those beneath it, a parent before its children, these in their order.
 #[cycle(push)]
-pub fn push_tree(line: &mut String, node: &Node) -> Result<(), AllocError> {
+pub(crate) fn push_tree(line: &mut String, node: &Node) -> Result<(), AllocError> {
     push_one(line, node)?;
     match node {
         Node::Lit { .. } | Node::It { .. } | Node::Name { .. } => Ok(()),

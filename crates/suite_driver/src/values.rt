@@ -1,6 +1,5 @@
 //! The values of an entity, in one line.
-use crate::spelled_literals::push_date;
-use crate::trouble::Trouble;
+use crate::literals::push_date;
 use edm_values::{Value, write_guid, write_int, write_moment, write_string};
 use std::alloc::AllocError;
 
@@ -27,7 +26,7 @@ fn push_values(
     text: &mut String,
     before: &str,
     values: &[Value],
-    behind: &str,
+    after: &str,
 ) -> Result<(), AllocError> {
     text.push_str(before)?;
     let mut is_first = true;
@@ -38,13 +37,13 @@ fn push_values(
         push_value(text, value)?;
         is_first = false;
     }
-    text.push_str(behind)
+    text.push_str(after)
 }
 
 /// Appends the values of a record in slot order.
-pub fn push_slots(text: &mut String, value: &Value) -> Result<(), Trouble> {
+pub(crate) fn push_slots(text: &mut String, value: &Value) -> Result<(), AllocError> {
     match value {
-        Value::Record(items) => Ok(push_values(text, "", items.as_slice(), "")?),
-        _ => Err(Trouble::NoRecord),
+        Value::Record(items) => push_values(text, "", items.as_slice(), ""),
+        _ => text.push_str("no record"),
     }
 }
