@@ -2,7 +2,7 @@
 //!
 //! The file has questions, one after another: a word and three texts, each as a netstring (`5:hello,`). An answer is
 //! written for each, a netstring too, `memory` where an allocation failed. The questions after `schema`, `type` and
-//! `filter` are of the document, the type and the filter that were given last. tests/suite_driver.py lists the words.
+//! `filter` are of the document, the type and the filter that were given last. tests/driver.py lists the words.
 #![tactic(auto)]
 
 mod costs;

@@ -68,12 +68,12 @@ fn push_node(text: &mut String, checked: &Checked<'_>, node: usize) -> Result<()
     push_number(text, "level", checked.level_of(node))
 }
 
-/// Whether the look-ups find nothing at an index past the nodes.
-fn has_none_past(checked: &Checked<'_>, place: usize) -> bool {
-    checked.span_of(place).is_none()
-        && checked.type_of(place).is_none()
-        && checked.slot_of(place).is_none()
-        && checked.level_of(place).is_none()
+/// Whether the look-ups find nothing of a node past the last one.
+fn has_none_past(checked: &Checked<'_>, node: usize) -> bool {
+    checked.span_of(node).is_none()
+        && checked.type_of(node).is_none()
+        && checked.slot_of(node).is_none()
+        && checked.level_of(node).is_none()
         && checked.slot_of(usize::MAX).is_none()
         && checked.level_of(usize::MAX).is_none()
 }
