@@ -209,10 +209,6 @@ class Calls:
         return Later(lambda got: got[asked])
 
 
-class NoType(Exception):
-    """A type is not there."""
-
-
 def typed(found, read):
     if found == "no such type":
         raise Trouble("a type of that name is not there")
