@@ -2,6 +2,7 @@
 import re
 
 from .definitions import cited, defined_in, head_of
+from .directions import ONE_SIDED, WITHOUT, sentence_of
 from .markdown import MADE, dedented, fenced, first_sentence, index_of, page_of, paragraph, plain, reexports
 from .sources import order_of
 
@@ -111,10 +112,29 @@ def requirements(crates):
     return [*lines, ""]
 
 
+def said_of(crates, pattern):
+    """The calls whose docs have such a sentence, crate by crate, each with that sentence."""
+    for crate in crates:
+        owners = {kind.name: crate.public_name(kind) for kind in crate.types()}
+        for call in crate.calls():
+            sentence = sentence_of(call, pattern)
+            if sentence:
+                name = f"{owners[call.owner]}::{call.name}" if call.owner else crate.public_name(call)
+                yield f"- [`{crate.name}`](#{crate.name}), `{name}`: {plain(sentence)}"
+
+
+def left_open(crates):
+    """The calls without a clause, and those of which clauses speak of one answer alone."""
+    lines = ["## Calls without a clause", "", *said_of(crates, WITHOUT), ""]
+    lines += ["## Calls with clauses of one direction", ""]
+    lines += ["The answer of which nothing is said costs time alone, unless the sentence says more.", ""]
+    return [*lines, *said_of(crates, ONE_SIDED), ""]
+
+
 def page(crates):
     """The page, as the sources are. It has the crates that have definitions."""
     shown = [crates[name] for name in order_of(crates) if crates[name].offers and crates[name].specs]
-    lines = [HEAD, index_of(shown), "", *requirements(shown)]
+    lines = [HEAD, index_of(shown), "", *requirements(shown), *left_open(shown)]
     for crate in shown:
         lines += section_of_crate(crate)
     return page_of(lines)

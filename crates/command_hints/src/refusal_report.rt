@@ -123,6 +123,7 @@ fn hints_of_query(
 
 /// Returns why the plan's filter or query is refused. It is a sentence, and of a filter its text with carets under the
 /// fault. `None` if it is not refused, or if the schema is or has no such type. The last line has no line feed.
+/// It has no clause: hints are tested, not proved.
 pub fn refusal_hints(
     alloc: Global,
     plan: &Plan<'_>,

@@ -106,7 +106,7 @@ impl<'s> Entity<'s> {
     }
 
     /// Reads a JSON object as an entity's value, as `expanded_from_json` does. It is a record, with the properties'
-    /// values by slot. `None` where it is none, or out of memory.
+    /// values by slot. `None` where it is none, or out of memory. Its clause says nothing of `None`.
     pub fn value_from_json(
         alloc: Global,
         schema: &Schema,

@@ -21,6 +21,7 @@ pub struct RowPlan {
 impl RowPlan {
     /// Creates the plan of an entity type, with that expanded. If an allocation fails it has fewer of the types that a
     /// row may hold, or nothing is expanded, and rows are read through JSON values.
+    /// Its clauses say nothing of a plan that is not whole.
     pub fn new(alloc: Global, schema: &Schema, type_id: TypeId, expansion: &Expansion) -> RowPlan
         requires { HoldsType schema.now type_id }
         ensures schema { IsPlanOf schema.now result }

@@ -204,7 +204,7 @@ pub fn type_plans(
     plans
 }
 
-/// Returns the plan of a type after a node, if it is at that index.
+/// Returns the plan of a type after a node, if it is at that index. Its clauses say nothing of `None`.
 #[inline(always)]
 pub fn plan_at(
     plans: &[TypePlan],

@@ -39,7 +39,7 @@ impl Model for LayoutReader {
 }
 
 impl LayoutReader {
-    /// Creates a reader that has read nothing yet.
+    /// Creates a reader that has read nothing yet. It has no clause: no answer depends on what a reader has stored.
     pub fn new(alloc: Global) -> LayoutReader {
         LayoutReader {
             cache: Cache::new(alloc),
@@ -48,14 +48,14 @@ impl LayoutReader {
         }
     }
 
-    /// Returns the allocator from which it takes memory.
+    /// Returns the allocator from which it takes memory. It has no clause: any allocator serves.
     pub fn allocator(&self) -> Global {
         self.cache.alloc
     }
 
     /// Reads a line as a row. The line is copied once, so that bytes can be read past its end. If this returns `None`,
     /// the line may still be a row: `Entity::expanded_from_json` says what is wrong with it, if anything is. The entity
-    /// is borrowed: the next row is read into the same memory.
+    /// is borrowed: the next row is read into the same memory. Its clauses say nothing of `None`.
     pub fn read<'r>(&'r mut self, layout: &'r RowLayout<'_>, line: &[u8]) -> Option<Entity<'r>>
         ensures of_type { IfSome result
             (λ e. (e.schema ≡ layout.now.schema) × (e.type_id ≡ layout.now.type_id)) }

@@ -150,7 +150,7 @@ impl<'s> TypeRows<'s> {
     }
 
     /// Fills the row of that line from here on, if it is read as one. Its collections are empty until a line is read.
-    /// Where rows are not read so, it stays without one.
+    /// Where rows are not read so, it stays without one. Its clause says nothing of whether a row is held then.
     #[inline(never)]
     pub fn begin(&mut self, line: &[u8])
         ensures { IsSameReader self.old self.new }
@@ -182,7 +182,7 @@ impl<'s> TypeRows<'s> {
         self.is_ready = fill_row(&mut self.cache, &context, &mut self.row);
     }
 
-    /// Reads the line of that length at the front of the bytes into the row.
+    /// Reads the line of that length at the front of the bytes into the row. Its clauses say nothing of `Unread`.
     #[inline(always)]
     pub fn read(&mut self, bytes: &[u8], count: usize, is_ascii: bool) -> Reading
         requires within { count ≤ length bytes.now }
@@ -232,6 +232,7 @@ impl<'s> TypeRows<'s> {
     /// Reads the object at an offset of a document into the row, as an item of an array in an object.
     ///
     /// The document is at the front of the bytes; an LF follows it, and at least 63 bytes follow that.
+    /// Its clauses say nothing of `Unread`.
     pub fn read_item<'t>(&mut self, text: &'t str, bytes: &'t [u8], place: usize) -> ItemReading
         requires front { take (length text.now) bytes.now ≡ text.now }
         requires line_feed { get_or bytes.now (length text.now) 0 ≡ 10 }

@@ -18,7 +18,7 @@ use super::numbers::{number_at, short_number_end};
 use super::roomy_line::RoomyLine;
 use super::words::{null_end, truth_end};
 
-/// The offset after a number that has a value.
+/// The offset after a number that has a value. Its clause says nothing of `None`.
 #[inline(always)]
 pub fn any_number_end(line: &RoomyLine<'_>, place: usize) -> Option<usize>
     requires { place ≤ length line.now }
@@ -38,7 +38,7 @@ pub fn any_number_end(line: &RoomyLine<'_>, place: usize) -> Option<usize>
     }
 }
 
-/// The offset after the JSON value that stands there, nested no deeper than that.
+/// The offset after the JSON value that stands there, nested no deeper than that. Its clause says nothing of `None`.
 #[inline(never)]
 #[cycle(any)]
 pub fn any_value_end(

@@ -11,7 +11,7 @@ pub struct DecodeBuffer {
 }
 
 impl DecodeBuffer {
-    /// Creates a buffer for which nothing is allocated yet.
+    /// Creates a buffer for which nothing is allocated yet. It has no clause: no answer depends on what a buffer holds.
     #[inline(always)]
     pub fn new(alloc: Global) -> DecodeBuffer {
         DecodeBuffer {

@@ -26,7 +26,7 @@ pub(crate) fn any_text_end(
     }
 }
 
-/// The offset after the text that begins there, which mostly has escapes.
+/// The offset after the text that begins there, which mostly has escapes. Its clauses say nothing of `None`.
 #[inline(never)]
 pub fn escaped_text_end(
     line: &RoomyLine<'_>,
@@ -72,7 +72,7 @@ fn passed_text_end(line: &RoomyLine<'_>, place: usize) -> Option<usize>
     }
 }
 
-/// The text that begins there, and the offset after it.
+/// The text that begins there, and the offset after it. Its clauses say nothing of `None`.
 pub fn any_text_at<'t>(
     line: &'t RoomyLine<'_>,
     place: usize,

@@ -29,7 +29,7 @@ pub fn mask_of(count: usize) -> [u8; 16]
     mask
 }
 
-/// Whether sixteen bytes are these, where the mask has all bits.
+/// Whether sixteen bytes are these, where the mask has all bits. Its clause says nothing of false.
 #[inline(always)]
 pub fn are_front(lanes: u8x16, mask: u8x16, front: u8x16) -> bool
     ensures { IsTrue result → (k : ℕ) → k < 16 → get_or mask k 0 ≡ 255 → get_or lanes k 0 ≡ get_or front k 0 }

@@ -4,6 +4,7 @@ ghost use Rattle.std.specs.Prelude.{◌≡◌, ◌+◌, ◌<◌, ◌≤◌, leng
 use super::roomy_line::ROOM;
 
 /// Copies a line to where it has a line feed and room after it, unless out of memory. What else was there stays.
+/// Its clauses say nothing of false, nor of what was there.
 #[inline(always)]
 pub fn copy_with_room(line: &[u8], room: &mut Vec<u8>) -> bool
     ensures copied { IsTrue result → take (length line.now) room.new.items ≡ line.now }

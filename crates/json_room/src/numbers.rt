@@ -71,7 +71,7 @@ fn starts_whole(line: &RoomyLine<'_>, from: usize, end: usize) -> bool
 }
 
 /// The offset after a number of at most `most` digits, without a sign, a fraction and an exponent. Numbers of 16 digits
-/// and more are not looked at.
+/// and more are not looked at. Its clause says nothing of `None`.
 #[inline(always)]
 pub fn digits_up_to(line: &RoomyLine<'_>, place: usize, most: usize) -> Option<usize>
     requires { place ≤ length line.now }
@@ -88,7 +88,7 @@ pub fn digits_up_to(line: &RoomyLine<'_>, place: usize, most: usize) -> Option<u
 }
 
 /// Returns the number that at most 18 digits write, and the offset after it. A sign, a fraction or an exponent is left
-/// to others.
+/// to others. Its clauses say nothing of `None`.
 #[inline(always)]
 pub fn whole_at(line: &RoomyLine<'_>, place: usize) -> Option<(u64, usize)>
     requires { place ≤ length line.now }
@@ -182,7 +182,7 @@ fn number_bytes_end(line: &RoomyLine<'_>, from: usize) -> usize
     place
 }
 
-/// The number that begins there, however it is written, and the offset after it.
+/// The number that begins there, however it is written, and the offset after it. Its clause says nothing of `None`.
 #[inline(never)]
 pub fn number_at<'a>(line: &RoomyLine<'a>, place: usize) -> Option<(&'a str, usize)>
     requires { place ≤ length line.now }

@@ -73,7 +73,7 @@ impl<'a> RoomyLine<'a> {
     }
 }
 
-/// Whether an LF follows so many bytes, and at least 63 bytes follow that.
+/// Whether an LF follows so many bytes, and at least 63 bytes follow that. Its clauses say nothing of false.
 #[inline(always)]
 pub fn has_room(bytes: &[u8], count: usize) -> bool
     ensures line_feed { IsTrue result → get_or bytes.now count 0 ≡ 10 }
@@ -83,6 +83,7 @@ pub fn has_room(bytes: &[u8], count: usize) -> bool
 }
 
 /// The first bytes, so many, as a text; `None` where they are not in UTF-8. They may be known to be of ASCII.
+/// Its clause says nothing of `None`.
 #[inline(always)]
 pub fn front_text(bytes: &[u8], count: usize, is_ascii: bool) -> Option<&str>
     requires room { count + 64 ≤ length bytes.now }

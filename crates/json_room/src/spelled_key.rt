@@ -38,7 +38,7 @@ impl Model for SpelledKey {
 
 impl SpelledKey {
     /// Creates the key of a name. It is `None` where the name has quotes, backslashes or control characters, or out of
-    /// memory.
+    /// memory. Its clause says nothing of `None`.
     pub fn new(alloc: Global, name: &str) -> Option<SpelledKey>
         ensures { IfSome result (λ key. key ≡ name.now) }
     {
@@ -57,7 +57,7 @@ impl SpelledKey {
         })
     }
 
-    /// The offset after the name, its quotes and its colon, if these begin there.
+    /// The offset after the name, its quotes and its colon, if these begin there. Its clauses say nothing of `None`.
     #[inline(always)]
     pub fn end(&self, line: &RoomyLine<'_>, place: usize) -> Option<usize>
         requires { place ≤ length line.now }
@@ -70,7 +70,7 @@ impl SpelledKey {
         Some(place + self.length)
     }
 
-    /// The same, where white space may come before the colon.
+    /// The same, where white space may come before the colon. Its clauses say nothing of `None`.
     #[inline(never)]
     pub fn end_before_blanks(&self, line: &RoomyLine<'_>, place: usize) -> Option<usize>
         requires { place ≤ length line.now }

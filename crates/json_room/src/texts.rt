@@ -54,7 +54,7 @@ pub fn plain_end(line: &RoomyLine<'_>, from: usize) -> usize
     }
 }
 
-/// The offset after the text without escapes that begins there.
+/// The offset after the text without escapes that begins there. Its clauses say nothing of `None`.
 #[inline(always)]
 pub fn text_end(line: &RoomyLine<'_>, place: usize) -> Option<usize>
     requires { place ≤ length line.now }
@@ -67,7 +67,7 @@ pub fn text_end(line: &RoomyLine<'_>, place: usize) -> Option<usize>
     }
 }
 
-/// The text without escapes that begins there, and the offset after it.
+/// The text without escapes that begins there, and the offset after it. Its clauses say nothing of `None`.
 #[inline(always)]
 pub fn text_at<'a>(line: &RoomyLine<'a>, place: usize) -> Option<(&'a str, usize)>
     requires { place ≤ length line.now }

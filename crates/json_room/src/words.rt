@@ -35,6 +35,7 @@ fn are_equal_4(lanes: u8x4, others: u8x4) -> bool
 }
 
 /// The truth value that begins there, and the offset after it. Neither value is guessed: no branch tells them apart.
+/// Its clause says nothing of `None`.
 #[inline(always)]
 pub fn truth_end(line: &RoomyLine<'_>, place: usize) -> Option<(bool, usize)>
     requires { place ≤ length line.now }
@@ -50,7 +51,7 @@ pub fn truth_end(line: &RoomyLine<'_>, place: usize) -> Option<(bool, usize)>
     }
 }
 
-/// The offset after the null that begins there.
+/// The offset after the null that begins there. Its clause says nothing of `None`.
 #[inline(always)]
 pub fn null_end(line: &RoomyLine<'_>, place: usize) -> Option<usize>
     requires { place ≤ length line.now }

@@ -25,7 +25,7 @@ pub trait Judge {
 
     /// Judges the line at the front of the bytes, where it can at once. Otherwise it is `None`, and `judge` judges the
     /// line. `count` is the line's length; the bytes after it decide nothing. A line for which `is_ascii` is set is of
-    /// ASCII, and another may be. A blank line is left to `judge`'s caller.
+    /// ASCII, and another may be. A blank line is left to `judge`'s caller. Its clauses say nothing of `None`.
     fn judge_at_front(
         &mut self,
         bytes: &[u8],

@@ -31,7 +31,7 @@ pub struct SlotTests {
 
 /// Returns the tests of slots that the filter's first terms make. Terms are those of a chain of `and`, else the filter
 /// itself, up to the first one that is neither a property nor its comparison with a number or a text. There are fewer
-/// where out of memory.
+/// where out of memory. Its clauses say nothing of which are left out.
 pub fn slot_sieves(alloc: Global, checked: &Checked<'_>) -> SlotTests
     ensures sieves { All (IsSieveOf checked.now) result.sieves.items }
     ensures whole { IsTrue result.are_whole → AreWhole checked.now result.sieves.items }

@@ -220,7 +220,7 @@ pub(crate) fn calculated(
 }
 
 /// Whether the operator can have no fault: its result always lies within the type.
-/// Nor does it ever divide by 0.
+/// Nor does it ever divide by 0. Its clause says nothing of false, which costs time alone.
 pub fn is_safe(operator: ArithmeticOperator, prim: Prim, left: Range, right: Range) -> bool
     requires left { IsBounded left }
     requires right { IsBounded right }

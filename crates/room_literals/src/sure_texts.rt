@@ -75,7 +75,7 @@ fn is_day(bytes: &[u8], from: usize) -> bool
     are_within(bytes, from, DAY, DAY_SPANS) && is_in_month(bytes, from)
 }
 
-/// The offset after a day in its quotes.
+/// The offset after a day in its quotes. Its clause says nothing of `None`.
 #[inline(always)]
 pub fn day_end(line: &RoomyLine<'_>, place: usize) -> Option<usize>
     requires { place ≤ length line.now }
@@ -159,7 +159,7 @@ fn is_digit_pair(bytes: &[u8], from: usize) -> bool
     bytes[from].is_ascii_digit() && bytes[from + 1].is_ascii_digit()
 }
 
-/// The offset after a moment in its quotes.
+/// The offset after a moment in its quotes. Its clause says nothing of `None`.
 #[inline(always)]
 pub fn moment_end(line: &RoomyLine<'_>, place: usize) -> Option<usize>
     requires { place ≤ length line.now }
@@ -215,7 +215,7 @@ fn is_guid(bytes: &[u8], from: usize) -> bool
     bytes[from + 23] == b'-'
 }
 
-/// The offset after a Guid in its quotes.
+/// The offset after a Guid in its quotes. Its clause says nothing of `None`.
 #[inline(always)]
 pub fn guid_end(line: &RoomyLine<'_>, place: usize) -> Option<usize>
     requires { place ≤ length line.now }

@@ -58,7 +58,7 @@ pub(crate) fn names_whole_row(checked: &Checked<'_>) -> bool
 }
 
 /// Returns the layout by which the filter's rows are read. It has what the filter needs of navigation, and borrows or
-/// shares the filter's schema.
+/// shares the filter's schema. Its clauses say nothing of a layout that is not whole.
 pub fn row_layout_of<'s>(
     alloc: Global,
     checked: &Checked<'_>,

@@ -36,7 +36,7 @@ pub struct Spares {
 }
 
 impl Spares {
-    /// None is kept yet.
+    /// None is kept yet. It has no clause: no answer depends on what is kept.
     pub fn new(alloc: Global) -> Spares {
         Spares {
             alloc,
@@ -113,7 +113,7 @@ impl Spares {
         self.keep(spare, old);
     }
 
-    /// Makes sure that a slot holds a record.
+    /// Makes sure that a slot holds a record. It has no clause: `record_in` says what the slot holds.
     #[inline(always)]
     pub fn begin_record(&mut self, spare: Spare, value: &mut Value) {
         if let Value::Record(_) = value {
@@ -130,7 +130,7 @@ impl Spares {
         };
     }
 
-    /// Makes sure that a slot holds a list of small capacity.
+    /// Makes sure that a slot holds a list of small capacity. It has no clause: `list_in` says what the slot holds.
     #[inline(always)]
     pub fn begin_list(&mut self, value: &mut Value) {
         if let Value::List(old) = value {
@@ -141,7 +141,7 @@ impl Spares {
         *value = Value::List(Vec::new(self.alloc));
     }
 
-    /// Whether a list has an item after so many; one is added where it has none.
+    /// Whether a list has an item after so many; one is added where it has none. Its clauses say nothing of false.
     #[inline(always)]
     pub fn has_item(&mut self, spare: Spare, items: &mut Vec<Value>, count: usize) -> bool
         requires { count ≤ length items.old.items }

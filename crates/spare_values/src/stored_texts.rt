@@ -10,6 +10,7 @@ use std::alloc::Global;
 pub(crate) const TEXT_ROOM: usize = 4096;
 
 /// Whether it is a text that may be written over. One that has more room than most texts want is let go.
+/// It has no clause: no answer depends on it.
 #[inline(always)]
 pub fn is_filled_again(value: &Value) -> bool {
     match value {
@@ -19,6 +20,7 @@ pub fn is_filled_again(value: &Value) -> bool {
 }
 
 /// Writes a text over another; false where no text stood there, or an allocation failed.
+/// Its clauses say nothing of false: the text may be gone.
 #[inline(always)]
 pub fn overwrite_text(text: &str, value: &mut Value) -> bool
     ensures { IsTrue result → HoldsText value.new text.now }
@@ -47,6 +49,7 @@ fn replace_text(alloc: Global, text: &str, value: &mut Value) -> bool
 }
 
 /// Puts a text where any value stands; false where an allocation failed.
+/// Its clauses say nothing of false: the value may be gone.
 #[inline(always)]
 pub fn write_text(alloc: Global, text: &str, value: &mut Value) -> bool
     ensures utf8 { IsUtf8 text.now }

@@ -68,6 +68,7 @@ pub fn list_in(value: &mut Value) -> Option<&mut Vec<Value>>
 }
 
 /// Makes a record's values as many as the slots of its type; false where an allocation failed.
+/// Its clauses say nothing of false: there may be fewer values.
 #[inline(always)]
 pub fn fit_count(values: &mut Vec<Value>, count: usize) -> bool
     ensures { IsTrue result → length values.new.items ≡ count }

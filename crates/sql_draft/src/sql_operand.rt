@@ -150,7 +150,7 @@ impl Operand {
         }
     }
 
-    /// Whether writing it more than once costs nothing.
+    /// Whether writing it more than once costs nothing. It has no clause: the text that is written means the same.
     pub fn is_leaf(&self, context: &SqlContext<'_, '_>) -> bool
         requires { IsInside context.now.checked.now self.now.source }
     {

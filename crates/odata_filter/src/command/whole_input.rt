@@ -52,7 +52,7 @@ pub fn read_whole_with<R: Read, S: Reads<R>>(
     }
 }
 
-/// Reads up to the end. An interrupted read has failed, and is not retried.
+/// Reads up to the end. An interrupted read has failed, and is not retried. Its clause says nothing of an error.
 pub fn read_whole<R: Read>(alloc: Global, reader: &mut R) -> Result<Vec<u8>, ReadAllError>
     ensures { IfOk result (λ bytes. IfSome (R.remaining reader.old) (λ all. bytes.items ≡ all)) }
 {
