@@ -1,0 +1,164 @@
+package org.odfilter;
+
+import static org.odfilter.Check.DOCUMENT;
+import static org.odfilter.Check.code;
+import static org.odfilter.Check.equal;
+import static org.odfilter.Check.equalBytes;
+import static org.odfilter.Check.item;
+import static org.odfilter.Check.row;
+import static org.odfilter.Check.that;
+import static org.odfilter.Check.thrown;
+
+import java.time.Instant;
+import java.util.List;
+import java.util.Map;
+import java.util.Optional;
+import java.util.stream.Collectors;
+import java.util.stream.Stream;
+
+/** The tests of the binding: `Tests` ends with a line of counts. */
+final class Tests {
+    private Tests() {
+    }
+
+    public static void main(String[] words) throws Exception {
+        checksOfFilters();
+        checksOfVerdicts();
+        checksOfRefusals();
+        checksOfErrors();
+        checksOfSurrogates();
+        checksOfSql();
+        checksOfLines();
+        Lifetimes.checksOfClosing();
+        Lifetimes.checksOfThreads();
+        Lifetimes.checksOfGrowth();
+        Check.end();
+    }
+
+    private static void checksOfFilters() {
+        Filter filter = item().check("((Active)) AND ID ge +01 and Tags/any(t:t eq 'b') and Changed lt now()");
+        equal("canonical", filter.canonical(), "Active and ID ge 1 and Tags/any(t:t eq 'b') and Changed lt now()");
+        equal("paths", filter.propertyPaths(), List.of("Active", "ID", "Tags", "Changed"));
+        that("nodes", filter.nodeCount() > 10, filter.nodeCount());
+        equal("depth", filter.lambdaDepth(), 1L);
+        equal("moment", filter.needsMoment(), true);
+        that("explanation", filter.explanation().contains("Edm.Boolean"), filter.explanation());
+        String longText = "ID eq 1 or ".repeat(200) + "Active";
+        equal("a long text", item().check(longText).canonical(), longText);
+        that("version", Schema.version().matches("\\d+\\.\\d+\\.\\d+"), Schema.version());
+        Filter found = item().checkUrl("$top=5&$filter=ID%20eq%201").orElseThrow();
+        equal("of a URL", List.of(found.text(), found.piece(), found.value()),
+                List.of("ID eq 1", new Span(7, 26), new Span(15, 26)));
+        equal("no filter", item().checkUrl("$top=5"), Optional.empty());
+        equal("no filter in a query", item().checkQuery(""), Optional.empty());
+    }
+
+    private static void checksOfVerdicts() {
+        Judge judge = item().check("Active and contains(Name,'a')").judge();
+        equal("true", judge.verdict(row(1, "\"cab\"", true)), Verdict.TRUE);
+        equal("false", judge.verdict(Text.utf8(row(1, "\"xy\"", true))), Verdict.FALSE);
+        equal("null", judge.verdict(row(1, "null", true)), Verdict.NULL);
+        Filter now = item().check("Changed lt now()");
+        for (String moment : List.of("2026-11-25T09:00:00Z", "2025-11-25T09:00:00Z")) {
+            Verdict wanted = moment.startsWith("2026") ? Verdict.TRUE : Verdict.FALSE;
+            equal(moment, now.judge().at(moment).verdict(row(1, "null", true)), wanted);
+            equal(moment, now.judge().at(Instant.parse(moment)).verdict(row(1, "null", true)), wanted);
+        }
+        Filter costly = item().check("Tags/any(t:t eq 'b')");
+        equal("within", costly.judge().within(2).verdict(row(1, "null", true)), Verdict.TRUE);
+        thrown(IllegalArgumentException.class, () -> costly.judge().within(-1));
+    }
+
+    private static void checksOfRefusals() {
+        String text = "Name eq '\uD83E\uDD8A\u00e9' and Foo eq 1";
+        FilterRefusedException refused = thrown(FilterRefusedException.class, () -> item().check(text));
+        equal("kind", refused.kind(), FilterRefusedException.Kind.TYPE);
+        equal("code", refused.code(), "UnknownProperty");
+        that("message", refused.getMessage().endsWith("."), refused.getMessage());
+        equal("span", text.substring(refused.span().start(), refused.span().stop()), "Foo");
+        equal("bytes", refused.byteSpan(), new Span(refused.span().start() + 3, refused.span().stop() + 3));
+        equal("pointed", refused.pointed(), text + "\n                 ^^^");
+        equal("empty", thrown(FilterRefusedException.class, () -> item().check("")).pointed(), "\n^");
+        refused = thrown(FilterRefusedException.class, () -> item().checkUrl("$top=5&$filter=Foo%20eq%201"));
+        equal("in a URL", List.of(refused.piece(), refused.value()), List.of(new Span(7, 27), new Span(15, 27)));
+        refused = thrown(
+                FilterRefusedException.class, () -> item().checkQuery("x=1&%24Filter=Name%20eq%0A'\u00e9'&y=2"));
+        equal("in a query", List.of(refused.code(), refused.text(), refused.byteSpan()),
+                List.of("BadCharacter", "Name eq\n'\u00e9'", new Span(7, 8)));
+        equal("a line feed", refused.pointed(), "Name eq\uFFFD'\u00e9'\n       ^");
+    }
+
+    private static void checksOfErrors() {
+        QueryRefusedException query =
+                thrown(QueryRefusedException.class, () -> item().checkUrl("a&x=1;$filter=Foo"));
+        equal("query", List.of(query.code(), query.number()), List.of("Disguised", 1L));
+        String name = "A".repeat(999);
+        SchemaException schema = thrown(SchemaException.class, () -> Schema.read(
+                "{\"$Version\":\"4.01\",\"N\":{\"" + name + "\":{\"$Kind\":\"EntityType\",\"P\":5}}}"));
+        equal("schema", List.of(schema.code(), schema.names()), List.of("BadProperty", List.of("N." + name, "P")));
+        equal("not JSON", thrown(SchemaException.class, () -> Schema.read(new byte[0])).names(), List.of());
+        UnknownTypeException unknown =
+                thrown(UnknownTypeException.class, () -> Schema.read(DOCUMENT).type("Mini.No"));
+        equal("type", unknown.typeName(), "Mini.No");
+        String text = row(7, "null", true);
+        RowException fault = thrown(
+                RowException.class, () -> item().check("Active").judge().verdict(text.replace("7", "\"7\"")));
+        equal("row", List.of(fault.code(), fault.path(), fault.line()), List.of("WrongKind", "ID", 1L));
+        Filter needs = item().check("Changed lt now()");
+        code("MomentNeeded", () -> needs.judge().verdict(text));
+        code("MomentNeeded", () -> needs.sql(Dialect.SQLITE, Map.of(), null));
+        code("NotAMoment", () -> needs.judge().at("soon"));
+        code("NotAMoment", () -> needs.sql(Dialect.SQLITE, Map.of(), "2026-01-01T00:00:00Z\nID=x"));
+        code("TooCostly", () -> item().check("Tags/any(t:t eq 'z')").judge().within(2).verdict(text));
+        code("UnknownColumn", () -> item().check("Active").sql(Dialect.SQLITE, Map.of("No", "x"), null));
+        code("UnknownColumn", () -> item().check("Active").sql(Dialect.SQLITE, Map.of("ID=", "x"), null));
+        code("Nul", () -> item().check("Name eq 'a\0'").sql(Dialect.SQLITE, Map.of(), null));
+        String deep = "(ID add ".repeat(60) + "ID" + ")".repeat(60) + " eq 1";
+        code("TooDeep", () -> item().check(deep).sql(Dialect.SQLITE, Map.of(), null));
+    }
+
+    /** Where a text is given, a lone surrogate is refused. */
+    private static void checksOfSurrogates() {
+        code("NotUtf8", () -> item().check("Name eq '\uD800'"));
+        code("NotUtf8", () -> item().checkUrl("$filter=Name eq '\uDFFF'"));
+        code("NotUtf8", () -> item().checkQuery("filter=\uDC80"));
+        code("NotUtf8", () -> Schema.read("{\"\uD800\":1}"));
+        code("NotUtf8", () -> Schema.read(DOCUMENT).type("Mini.\uDFFF"));
+        code("NotUtf8", () -> item().check("Active").judge().at("\uDC80"));
+        code("NotUtf8", () -> item().check("Active").judge().verdict("{\"ID\":\"\uD83E\"}"));
+        code("NotUtf8", () -> item().check("Active").sql(Dialect.SQLITE, Map.of("ID", "\uD800"), null));
+        equal("a pair", item().check("Name eq '\uD83E\uDD8A'").canonical(), "Name eq '\uD83E\uDD8A'");
+    }
+
+    private static void checksOfSql() {
+        Filter filter = item().check("ID eq 9007199254740993 and Name eq 'a''\"\\b' and ID ne -1");
+        Conditions found = filter.sql(Dialect.POSTGRESQL, Map.of("ID", "key"), null);
+        equal("parameters", found.keep().parameters(), List.of(9007199254740993L, "a'\"\\b", -1L));
+        that("column", found.keep().text().contains("t.\"key\""), found.keep().text());
+        equal("no fault", found.fault(), Optional.empty());
+        Conditions divided = item().check("1 div ID eq 1").sqlOverJson(Dialect.SQLITE, "doc", null);
+        that("a fault", divided.fault().isPresent(), divided);
+        that("over JSON", divided.outcome().text().contains("t.\"doc\""), divided.outcome().text());
+        Conditions escaped = item().check("Name eq '\t\n\u0001\u00e9'").sql(Dialect.SQLITE, Map.of(), null);
+        equal("escapes", escaped.keep().parameters(), List.of("\t\n\u0001\u00e9"));
+    }
+
+    private static void checksOfLines() {
+        Judge judge = item().check("Active").judge();
+        String kept = row(1, "null", true);
+        String all = kept + "\n \t\n" + row(2, "null", false) + "\n" + kept;
+        Judge.Kept found = judge.filterLines(Text.utf8(all));
+        equalBytes("kept lines", found.text(), Text.utf8(kept + "\n" + kept + "\n"));
+        equal("counts", List.of(found.rows(), found.kept()), List.of(3L, 2L));
+        RowException fault = thrown(RowException.class, () -> judge.filterLines(Text.utf8(all + "\n{}\n" + kept)));
+        equal("a fault", List.of(fault.code(), fault.line()), List.of("Missing", 5L));
+        equalBytes("kept before it", fault.kept(), Text.utf8(kept + "\n" + kept + "\n"));
+        String large = " ".repeat((1 << 20) + 1);
+        equal("too long", thrown(RowException.class, () -> judge.filterLines(Text.utf8(large))).code(), "LineTooLong");
+        List<String> rows = judge.keep(Stream.of(kept, row(2, "null", false), kept)).collect(Collectors.toList());
+        equal("a stream", rows, List.of(kept, kept));
+        String great = kept.replace("null", "\"" + "x".repeat(3 << 20) + "\"");
+        equal("a great row", judge.verdict(great), Verdict.TRUE);
+        equal("and a small one", judge.verdict(kept), Verdict.TRUE);
+    }
+}

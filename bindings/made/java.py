@@ -1,0 +1,160 @@
+"""Java has the numbers, and the calls twice: by JNA, and by java.lang.foreign for Java 22 and later."""
+from .header import FROM, member, shown
+
+NUMBERS = """package org.odfilter;
+
+/** Numbers and names of the C library. {made} */
+final class Numbers {{
+{numbers}
+    /** How many names each fault of a schema carries, by its number. */
+    static final int[] SCHEMA_NAMES = {{{schema_names}}};
+
+    private Numbers() {{
+    }}
+
+    /** The name of a fault, or null where this version does not know it. */
+    static String nameOf(int status, int fault) {{
+        switch (status << 8 | fault) {{
+{faults}            default:
+                return null;
+        }}
+    }}
+}}
+"""
+ANSWER = """package org.odfilter;
+
+/** What a call reports besides its status. {made} */
+final class Answer {{
+    /** How many bytes it has in the library's memory. */
+    static final int SIZE = {size};
+{fields}}}
+"""
+JNA = """package org.odfilter;
+
+import com.sun.jna.Native;
+import com.sun.jna.NativeLibrary;
+import com.sun.jna.Pointer;
+import com.sun.jna.Structure;
+
+/** The calls of the C library, by JNA. {made} */
+final class Library {{
+    static {{
+        Native.register(Library.class, NativeLibrary.getInstance(Loader.path()));
+    }}
+
+    private Library() {{
+    }}
+
+    /** Bytes or a buffer. */
+    @Structure.FieldOrder({{"at", "length"}})
+    public static class Bytes extends Structure implements Structure.ByValue {{
+        public Pointer at;
+        public long length;
+    }}
+
+    static void read(Pointer from, Answer to) {{
+{reads}    }}
+
+    static void write(Answer from, Pointer to) {{
+{writes}    }}
+{calls}}}
+"""
+FOREIGN = """package org.odfilter;
+
+import static java.lang.foreign.ValueLayout.ADDRESS;
+import static java.lang.foreign.ValueLayout.JAVA_INT;
+import static java.lang.foreign.ValueLayout.JAVA_LONG;
+
+import java.lang.foreign.Arena;
+import java.lang.foreign.FunctionDescriptor;
+import java.lang.foreign.Linker;
+import java.lang.foreign.MemoryLayout;
+import java.lang.foreign.MemorySegment;
+import java.lang.foreign.StructLayout;
+import java.lang.foreign.SymbolLookup;
+import java.lang.invoke.MethodHandle;
+import java.nio.file.Path;
+
+/** The calls of the C library, by java.lang.foreign. {made} */
+final class Library {{
+    /** Bytes or a buffer. */
+    static final StructLayout BYTES = MemoryLayout.structLayout(ADDRESS, JAVA_LONG);
+    private static final SymbolLookup SYMBOLS =
+            SymbolLookup.libraryLookup(Path.of(Loader.path()), Arena.global());
+
+{calls}
+    private Library() {{
+    }}
+
+    private static MethodHandle call(String name, MemoryLayout... parameters) {{
+        FunctionDescriptor of = FunctionDescriptor.of(JAVA_INT, parameters);
+        return Linker.nativeLinker().downcallHandle(SYMBOLS.find(name).orElseThrow(), of);
+    }}
+
+    static void read(MemorySegment from, Answer to) {{
+{reads}    }}
+
+    static void write(Answer from, MemorySegment to) {{
+{writes}    }}
+}}
+"""
+OF_JNA = {"odfilter_bytes": "Bytes", "odfilter_buffer": "Bytes", "odfilter_handle **": "Pointer"}
+OF_JNA |= {"const odfilter_handle *": "Pointer", "odfilter_handle *": "Pointer", "odfilter_answer *": "Pointer"}
+OF_JNA |= {"const odfilter_answer *": "Pointer", "uint32_t": "int", "uint64_t": "long", "size_t": "long"}
+OF_FOREIGN = {"odfilter_bytes": "BYTES", "odfilter_buffer": "BYTES", "uint32_t": "JAVA_INT", "uint64_t": "JAVA_LONG"}
+OF_FOREIGN |= {"size_t": "JAVA_LONG"}
+
+
+def numbers(header):
+    groups = [("", header.statuses), ("VERDICT_", header.verdicts), ("FORM_", header.forms)]
+    lines = (f"    static final int {prefix}{name} = {it};\n" for prefix, pairs in groups for name, it in pairs)
+    faults = (
+        f'            case {status} << 8 | {number}:\n                return "{name}";\n'
+        for status, number, name in header.faults
+    )
+    return NUMBERS.format(made=FROM, numbers="".join(lines), schema_names=header.schema_names, faults="".join(faults))
+
+
+def answer(header):
+    fields = "".join(f"    {OF_JNA[it['type']]} {member(it['name'])};\n" for it in header.answer)
+    last = header.answer[-1]
+    return ANSWER.format(made=FROM, size=last["offset"] + last["size"], fields=fields)
+
+
+def lines(header, line):
+    """A line for each field of an answer: of its name, its type in Java, the layout of that, and its offset."""
+    for field in header.answer:
+        kind = OF_JNA[field["type"]]
+        yield "        " + line.format(
+            name=member(field["name"]), kind=kind.capitalize(), layout=f"JAVA_{kind.upper()}", offset=field["offset"]
+        )
+
+
+def by_jna(header):
+    calls = (
+        "\n" + shown(f"    static native int {name}(", [f"{OF_JNA[kind]} {member(it)}" for it, kind in given], ");")
+        for name, given in header.calls
+    )
+    reads = "".join(lines(header, "to.{name} = from.get{kind}({offset});\n"))
+    writes = "".join(lines(header, "to.set{kind}({offset}, from.{name});\n"))
+    return JNA.format(made=FROM, reads=reads, writes=writes, calls="".join(calls))
+
+
+def by_foreign(header):
+    calls = (
+        shown(
+            f"    static final MethodHandle {name.removeprefix('odfilter_').upper()} = call(",
+            [f'"{name}"', *(OF_FOREIGN.get(kind, "ADDRESS") for _, kind in given)],
+            ");",
+        )
+        for name, given in header.calls
+    )
+    reads = "".join(lines(header, "to.{name} = from.get({layout}, {offset});\n"))
+    writes = "".join(lines(header, "to.set({layout}, {offset}, from.{name});\n"))
+    return FOREIGN.format(made=FROM, reads=reads, writes=writes, calls="".join(calls))
+
+
+def files(header):
+    source = "java/src/main/{}/org/odfilter/{}.java"
+    found = {source.format("java", "Numbers"): numbers(header), source.format("java", "Answer"): answer(header)}
+    return found | {source.format("java", "Library"): by_jna(header), source.format("java22", "Library"): by_foreign(header)}
