@@ -1,0 +1,193 @@
+using System;
+using System.Collections.Generic;
+using System.Text;
+
+namespace Odfilter
+{
+    /// <summary>Why a call gave nothing. The code stays from version to version; the message is a sentence for people.
+    /// Without a class of their own: NotUtf8, MomentNeeded, NotAMoment, TooCostly, UnknownColumn, and of SQL Nul and
+    /// TooDeep.</summary>
+    public class ODataException : Exception
+    {
+        internal ODataException(string code, string message) : base(message)
+        {
+            Code = code;
+        }
+
+        /// <summary>The name of the fault.</summary>
+        public string Code { get; }
+
+        /// <summary>The error of a status that says everything.</summary>
+        internal static Exception Of(Status status)
+        {
+            switch (status)
+            {
+                case Status.NotUtf8:
+                    return new ODataException("NotUtf8", "The text is not UTF-8.");
+                case Status.Memory:
+                    return new OutOfMemoryException();
+                case Status.MomentNeeded:
+                    return new ODataException("MomentNeeded", "The filter calls now(), and the judge has no moment.");
+                case Status.NotAMoment:
+                    return new ODataException("NotAMoment", "The text is not a moment.");
+                case Status.TooCostly:
+                    return new ODataException("TooCostly", "The filter costs more on the row than the judge's bound.");
+                case Status.Unsayable:
+                    return new ODataException("Nul", "A text has the character U+0000, which no engine takes.");
+                case Status.TooDeep:
+                    return new ODataException("TooDeep", "The conditions nest too deeply for the engine.");
+                case Status.UnknownColumn:
+                    return new ODataException("UnknownColumn", "A column is named for no property of the type.");
+                default:
+                    return new InvalidOperationException("odfilter: status " + (uint)status);
+            }
+        }
+    }
+
+    /// <summary>What a refused filter lacks: tokens, a tree, or types.</summary>
+    public enum RefusalKind
+    {
+        Text,
+        Syntax,
+        Type,
+    }
+
+    /// <summary>A range of bytes: the first and the one after the last.</summary>
+    public struct ByteSpan
+    {
+        internal ByteSpan(UIntPtr start, UIntPtr stop)
+        {
+            Start = (int)start;
+            Stop = (int)stop;
+        }
+
+        public int Start { get; }
+
+        public int Stop { get; }
+
+        public override string ToString()
+        {
+            return Start + ".." + Stop;
+        }
+    }
+
+    /// <summary>A filter is refused: at Text.Substring(Start, Length), and at Bytes of the text's UTF-8.</summary>
+    public sealed class FilterRefusedException : ODataException
+    {
+        internal FilterRefusedException(Status status, byte[] text, Answer answer, string message)
+            : base(Odfilter.Text.CodeOf(status, answer), message)
+        {
+            Kind = (RefusalKind)(status - Status.TextFault);
+            Text = Odfilter.Text.Of(text);
+            Bytes = new ByteSpan(answer.Start, answer.Stop);
+            Start = Odfilter.Text.Of(text, 0, Bytes.Start).Length;
+            Length = Odfilter.Text.Of(text, Bytes.Start, Bytes.Stop - Bytes.Start).Length;
+            Piece = new ByteSpan(answer.PieceStart, answer.PieceStop);
+            Value = new ByteSpan(answer.ValueStart, answer.ValueStop);
+        }
+
+        public RefusalKind Kind { get; }
+
+        /// <summary>The filter's text, decoded where it stood in a query.</summary>
+        public string Text { get; }
+
+        public int Start { get; }
+
+        public int Length { get; }
+
+        public ByteSpan Bytes { get; }
+
+        /// <summary>Of CheckUrl: the bytes of the query that the filter's option takes, name and value.</summary>
+        public ByteSpan Piece { get; }
+
+        /// <summary>Of CheckUrl: the bytes of the query that the option's value takes.</summary>
+        public ByteSpan Value { get; }
+
+        /// <summary>The text, and below it a caret under each character of the span, one at least.</summary>
+        public string Pointed
+        {
+            get
+            {
+                var shown = new StringBuilder();
+                foreach (var it in Text)
+                {
+                    shown.Append(char.IsControl(it) || it == '\u2028' || it == '\u2029' ? '\uFFFD' : it);
+                }
+                var before = CharactersIn(Text.Substring(0, Start));
+                var within = Math.Max(CharactersIn(Text.Substring(Start, Length)), 1);
+                return shown + "\n" + new string(' ', before) + new string('^', within);
+            }
+        }
+
+        private static int CharactersIn(string text)
+        {
+            var count = 0;
+            foreach (var it in text)
+            {
+                count += char.IsLowSurrogate(it) ? 0 : 1;
+            }
+            return count;
+        }
+    }
+
+    /// <summary>A query is refused. Number is the byte of the '%' for the code BadEscape, and else the index of the
+    /// option; both count from 0.</summary>
+    public sealed class QueryRefusedException : ODataException
+    {
+        internal QueryRefusedException(byte[] query, Answer answer)
+            : base(Text.CodeOf(Status.QueryFault, answer), Text.MessageOf(null, Status.QueryFault, query, answer))
+        {
+            Number = answer.Number;
+        }
+
+        public ulong Number { get; }
+    }
+
+    /// <summary>A document is no schema. Names are those that the fault carries, none to two.</summary>
+    public sealed class SchemaException : ODataException
+    {
+        internal SchemaException(byte[] names, Answer answer)
+            : base(Text.CodeOf(Status.SchemaFault, answer), Text.MessageOf(null, Status.SchemaFault, names, answer))
+        {
+            var first = (int)answer.First;
+            var both = new[] { Text.Of(names, 0, first), Text.Of(names, first, names.Length - first) };
+            var count = answer.Fault < Numbers.SchemaNames.Length ? Numbers.SchemaNames[answer.Fault]
+                : names.Length == 0 ? 0 : 2;
+            Array.Resize(ref both, count);
+            Names = both;
+        }
+
+        public IReadOnlyList<string> Names { get; }
+    }
+
+    /// <summary>A schema has no entity type of that name.</summary>
+    public sealed class UnknownTypeException : ODataException
+    {
+        internal UnknownTypeException(string typeName)
+            : base("UnknownType", Text.MessageOf(null, Status.UnknownType, Text.Utf8(typeName), default(Answer)))
+        {
+            TypeName = typeName;
+        }
+
+        public string TypeName { get; }
+    }
+
+    /// <summary>A row has no verdict. Lines are counted from 1; Kept has the lines that are kept before it.</summary>
+    public sealed class RowException : ODataException
+    {
+        internal RowException(Status status, Answer answer, byte[] path, ulong line, byte[] kept)
+            : base(Text.CodeOf(status, answer), Text.MessageOf(null, status, path, answer))
+        {
+            Path = Text.Of(path);
+            Line = line;
+            Kept = kept;
+        }
+
+        /// <summary>The path from the row to the value at fault, as Parts/0/Qty; it may be empty.</summary>
+        public string Path { get; }
+
+        public ulong Line { get; }
+
+        public byte[] Kept { get; }
+    }
+}

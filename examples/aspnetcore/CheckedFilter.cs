@@ -1,0 +1,63 @@
+using System;
+using System.Text;
+using System.Threading.Tasks;
+using Microsoft.AspNetCore.Http;
+using Odfilter;
+
+/// <summary>An endpoint filter for ASP.NET Core: app.MapGet("/Items", ..).AddEndpointFilter(new CheckedFilter(entities)).
+/// It passes on requests whose $filter is accepted and has at most so many nodes, with its canonical text in the query,
+/// and answers others by 400 and the standard's error body. An endpoint has the filter as the item FilterItem, until it
+/// has answered.</summary>
+public sealed class CheckedFilter : IEndpointFilter
+{
+    public const string FilterItem = "odata.filter";
+    private readonly EntityType entities;
+    private readonly ulong mostNodes;
+
+    public CheckedFilter(EntityType entities, ulong mostNodes = 100)
+    {
+        this.entities = entities;
+        this.mostNodes = mostNodes;
+    }
+
+    public async ValueTask<object> InvokeAsync(EndpointFilterInvocationContext context, EndpointFilterDelegate next)
+    {
+        var request = context.HttpContext.Request;
+        var query = (request.QueryString.Value ?? "").TrimStart('?');
+        Filter filter;
+        FilterRefusedException refusal;
+        try
+        {
+            if (!entities.TryCheckUrl(Encoding.UTF8.GetBytes(query), out filter, out refusal))
+            {
+                var span = new[] { refusal.Bytes.Start, refusal.Bytes.Stop };
+                return Refused(refusal.Code, refusal.Message, new { span, pointer = refusal.Pointed });
+            }
+        }
+        catch (QueryRefusedException refused)
+        {
+            return Refused(refused.Code, refused.Message, null);
+        }
+        if (filter == null)
+        {
+            return await next(context);
+        }
+        using (filter)
+        {
+            if (filter.NodeCount > mostNodes)
+            {
+                return Refused("TooComplex", "The filter has too many nodes.", null);
+            }
+            var text = Uri.EscapeDataString(filter.Canonical);
+            var value = query.Substring(0, filter.Value.Start) + text + query.Substring(filter.Value.Stop);
+            request.QueryString = new QueryString("?" + value);
+            context.HttpContext.Items[FilterItem] = filter;
+            return await next(context);
+        }
+    }
+
+    private static object Refused(string code, string message, object innererror)
+    {
+        return Results.Json(new { error = new { code, message, target = "$filter", innererror } }, statusCode: 400);
+    }
+}
