@@ -19,12 +19,13 @@ TOP_PAGES = ["README.md", "CHANGELOG.md", "SECURITY.md"]
 UNKNOWN = {"licenseConcluded": "NOASSERTION", "copyrightText": "NOASSERTION"}
 
 
-def files(program, kit):
+def files(program, kit, extension):
     """The files of a release: where each stands in it, and where it is."""
     yield "bin/odfilter", program
     for name in ("lib/libodfilter.a", "lib/libodfilter.so", "lib/libodfilter.so.0", "lib/pkgconfig/odfilter.pc"):
         yield name, f"{kit}/{name}"
     yield from ((f"include/odfilter.{kind}", f"{TOP}/include/odfilter.{kind}") for kind in ("h", "json"))
+    yield "lib/sqlite/odfilter.so", extension
     for path in sorted(it for kind in ("*.py", "*.sql", "py.typed") for it in glob.glob(f"{MODULE}/odfilter/{kind}")):
         yield f"lib/odfilter/{os.path.basename(path)}", path
     yield "share/odfilter/postgresql.sql", f"{MODULE}/odfilter/postgresql.sql"
@@ -100,9 +101,9 @@ def bill_of(name, version, kit_version, contents):
     return json.dumps({**about, **parts}, indent=1).encode() + b"\n"
 
 
-def made(folder, program, kit, version):
-    """Makes the archive in a folder, and its checksum beside it: of the same files the same, byte for byte."""
-    name, found = f"odfilter-{version}-x86_64", dict(files(program, kit))
+def made(folder, program, kit, version, extension):
+    """Makes the archive in a folder: of the same files the same, byte for byte."""
+    name, found = f"odfilter-{version}-x86_64", dict(files(program, kit, extension))
     places = {os.path.normpath(path): place for place, path in found.items()}
     contents = {it: content(path, it, places) for it, path in found.items() if not os.path.islink(path)}
     kit_version = subprocess.run(["rt", "version"], capture_output=True, check=True, timeout=60).stdout.decode().strip()
@@ -117,12 +118,6 @@ def made(folder, program, kit, version):
             entry.mode, entry.size = 0o755 if entry.mode & 0o100 else 0o644, len(text)
             archive.addfile(entry, io.BytesIO(text))
     archive_path, text = f"{folder}/{name}.tar.gz", packed.getvalue()
-    for path, written in [(archive_path, text), (f"{archive_path}.sha256", sum_of(text, f"{name}.tar.gz"))]:
-        with open(path, "wb") as out:
-            out.write(written)
+    with open(archive_path, "wb") as out:
+        out.write(text)
     return archive_path, name
-
-
-def sum_of(text, name):
-    """A line as sha256sum reads it."""
-    return f"{hashlib.sha256(text).hexdigest()}  {name}\n".encode()

@@ -2,7 +2,8 @@
 
 The library is that of the variable ODFILTER_LIBRARY, else libodfilter.so beside this file, as `bindings/c/build FOLDER`
 leaves it in FOLDER/lib. A wheel is a zip file with a list of its own contents (PEP 427), so the standard library makes
-it, and pip builds offline. Its tag names the platform, since the library is of one, and any Python 3.
+it, and pip builds offline. Its tag names any Python 3 and the platform of the library: this machine's, or that of the
+variable WHEEL_PLATFORM.
 """
 import base64
 import hashlib
@@ -52,7 +53,7 @@ def bytes_of(path):
 def build_wheel(wheel_directory, config_settings=None, metadata_directory=None):
     """Makes the wheel in a folder, and returns its name (PEP 517)."""
     del config_settings, metadata_directory
-    about, platform = project(), re.sub(r"[-.]", "_", sysconfig.get_platform())
+    about, platform = project(), os.environ.get("WHEEL_PLATFORM") or re.sub(r"[-.]", "_", sysconfig.get_platform())
     tag, info = f"py3-none-{platform}", f"{about['name']}-{about['version']}.dist-info"
     files = {name: bytes_of(path) for name, path in [*sources(), ("odfilter/libodfilter.so", library())]}
     files[f"{info}/METADATA"] = metadata()
