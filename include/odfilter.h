@@ -41,6 +41,8 @@
  * another kind than a call requires is ODFILTER_OTHER_KIND, and NULL is ODFILTER_NULL. A call that returns another
  * status than ODFILTER_OK leaves the handles that it was given unchanged, but for the path that a judge stores.
  *
+ * FLAT CALLS, at the end, are the same calls under further names, for languages that do not pass a struct by value.
+ *
  * THREADS. Schemas, types and filters are only read: several threads may use one at once. A judge is used by one
  * call at a time, so each thread has its own. A handle is freed when no call uses it. What one thread made may be
  * used and freed by another that learned of it by a lock, a start or a join of a thread, or a sequentially
@@ -388,6 +390,44 @@ uint32_t odfilter_fault_name(uint32_t status, uint32_t fault, odfilter_buffer te
  * ODFILTER_NOT_UTF8: `text` is none, and the fault is not of a query. ODFILTER_MEMORY. */
 uint32_t odfilter_fault_text(const odfilter_handle *type, uint32_t status, odfilter_bytes text,
                              odfilter_buffer sentence, const odfilter_answer *fault, odfilter_answer *answer);
+
+/* ---- Flat calls */
+
+/* The calls above that take bytes or buffers, under names for languages that do not pass a struct by value, or do so
+ * slowly: each odfilter_bytes and odfilter_buffer is its address and its length. All else is as above. */
+uint32_t odfilter_flat_read_schema(const char *document, size_t document_length, char *names, size_t names_length,
+                                   odfilter_handle **schema, odfilter_answer *answer);
+uint32_t odfilter_flat_find_type(const odfilter_handle *schema, const char *name, size_t name_length,
+                                 odfilter_handle **type);
+uint32_t odfilter_flat_check(const odfilter_handle *type, const char *text, size_t text_length,
+                             odfilter_handle **filter, odfilter_answer *answer);
+uint32_t odfilter_flat_check_query(const odfilter_handle *type, const char *query, size_t query_length,
+                                   odfilter_handle **filter, odfilter_answer *answer);
+uint32_t odfilter_flat_check_url(const odfilter_handle *type, const char *query, size_t query_length, char *text,
+                                 size_t text_length, odfilter_handle **filter, odfilter_answer *answer);
+uint32_t odfilter_flat_canonical(const odfilter_handle *filter, char *text, size_t text_length,
+                                 odfilter_answer *answer);
+uint32_t odfilter_flat_explain(const odfilter_handle *filter, char *text, size_t text_length,
+                               odfilter_answer *answer);
+uint32_t odfilter_flat_property_paths(const odfilter_handle *filter, char *paths, size_t paths_length,
+                                      odfilter_answer *answer);
+uint32_t odfilter_flat_sql(const odfilter_handle *filter, uint32_t form, const char *how, size_t how_length,
+                           char *text, size_t text_length, odfilter_answer *answer);
+uint32_t odfilter_flat_set_moment(odfilter_handle *judge, const char *moment, size_t moment_length);
+uint32_t odfilter_flat_judge(const odfilter_handle *filter, odfilter_handle *judge, const char *row,
+                             size_t row_length, odfilter_answer *answer);
+uint32_t odfilter_flat_judge_next(odfilter_handle *judge, const char *row, size_t row_length,
+                                  odfilter_answer *answer);
+uint32_t odfilter_flat_filter_lines(const odfilter_handle *filter, odfilter_handle *judge, const char *rows,
+                                    size_t rows_length, char *kept, size_t kept_length, odfilter_answer *answer);
+uint32_t odfilter_flat_path(const odfilter_handle *judge, char *path, size_t path_length, odfilter_answer *answer);
+uint32_t odfilter_flat_version(char *text, size_t text_length, odfilter_answer *answer);
+uint32_t odfilter_flat_status_name(uint32_t status, char *text, size_t text_length, odfilter_answer *answer);
+uint32_t odfilter_flat_fault_name(uint32_t status, uint32_t fault, char *text, size_t text_length,
+                                  odfilter_answer *answer);
+uint32_t odfilter_flat_fault_text(const odfilter_handle *type, uint32_t status, const char *text,
+                                  size_t text_length, char *sentence, size_t sentence_length,
+                                  const odfilter_answer *fault, odfilter_answer *answer);
 
 #ifdef __cplusplus
 }

@@ -33,7 +33,7 @@ def checks_of_header(_):
     places.update({"odfilter_bytes ": "_Bytes", "odfilter_buffer ": "_Buffer"})
     places.update({"uint32_t ": "_NUMBER", "uint64_t ": "_COUNT"})
     calls = {}
-    for name, given in re.findall(r"^uint32_t odfilter_(\w+)\(([^)]*)\);", header, re.MULTILINE):
+    for name, given in re.findall(r"^uint32_t odfilter_(?!flat_)(\w+)\(([^)]*)\);", header, re.MULTILINE):
         kinds = [re.sub(r"\w+$", "", it.strip().removeprefix("const ")) for it in given.split(",")]
         calls[name] = [getattr(library, places[kind]) for kind in kinds]
     yield "the calls of the header", calls == library._CALLS, calls

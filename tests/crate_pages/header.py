@@ -11,8 +11,10 @@ from .sources import text_of
 
 __all__ = ["DATA", "checks", "page"]
 HEADER, DATA = "include/odfilter.h", "include/odfilter.json"
-EXPORTS = [f"crates/odfilter_c/src/{name}.rt" for name in ("exports", "filter_exports", "judge_exports")]
+EXPORTS = [f"crates/odfilter_c/src/{it}.rt" for it in ("c_types", "exports", "filter_exports", "judge_exports")]
 SIZES = {"uint32_t": 4, "uint64_t": 8, "size_t": 8, "const char *": 8, "char *": 8}
+# what stands for a struct in a flat call: the type of its address
+FLAT = {"odfilter_bytes": "const char *", "odfilter_buffer": "char *"}
 # the types of C beside those of the sources
 TYPES = {"u32": "uint32_t", "u64": "uint64_t", "usize": "size_t", "*const u8": "const char *", "*mut u8": "char *"}
 # what a parameter of an export is in the header: a handle is an address of bytes there
@@ -90,7 +92,10 @@ def calls(header):
         for it in given.split(","):
             kind, word = re.fullmatch(r"(.*?[ *])(\w+)", " ".join(it.split())).groups()
             parameters.append({"name": word, "type": kind.strip()})
-        yield {"name": name, "returns": "uint32_t", "parameters": parameters, "about": about}
+        call = {"name": name, "returns": "uint32_t", "parameters": parameters, "about": about}
+        if any(it["type"] in FLAT for it in parameters):
+            call["flat"] = name.replace("odfilter_", "odfilter_flat_", 1)
+        yield call
 
 
 def plain_lines(header):
@@ -139,14 +144,23 @@ def page():
 def exports():
     """The calls of the sources: of each the types of what C gives it, and their names."""
     for path in EXPORTS:
-        for name, given in re.findall(r'pub unsafe extern "C" fn (\w+)\(([^)]*)\)', text_of(path)):
+        for name, given in re.findall(r'pub (?:unsafe )?extern "C" fn (\w+)\(([^)]*)\)', text_of(path)):
             pairs = [[word.strip() for word in it.split(":")] for it in given.split(",") if it.strip()]
             yield name, [kind for word, kind in pairs if word != "alloc"]
 
 
+def flattened(call):
+    """The parameters of a call as its flat one has them."""
+    for it in call["parameters"]:
+        kind = FLAT.get(it["type"])
+        yield (it["name"], kind or it["type"])
+        if kind:
+            yield f"{it['name']}_length", "size_t"
+
+
 def names_of_statuses():
     text = text_of("crates/handle_calls/src/name_calls.rt")
-    listed = re.findall(r'^        (\d+) => Ok\("(\w+)"\)', text, re.MULTILINE)
+    listed = re.findall(r'^        (\d+) => Ok\("([A-Z_0-9]+)"\)', text, re.MULTILINE)
     return {int(number): name for number, name in listed}
 
 
@@ -181,7 +195,13 @@ def checks():
         has = [(it["name"], it["type"]) for it in struct["fields"]]
         is_well = has == fields_of(f"crates/{path}.rt", name.capitalize())
         yield f"{HEADER}: the fields of odfilter_{name} are not the sources'", is_well
+    flat = {it["name"]: [(each["name"], each["type"]) for each in it["parameters"]] for it in found["calls"]}
     declared = {it["name"]: [each["type"] for each in it["parameters"]] for it in found["calls"]}
+    for call in found["calls"]:
+        if "flat" in call:
+            fits = flat.get(call["flat"]) == [*flattened(call)]
+            yield f"{HEADER}: {call['flat']} is not {call['name']} with its structs apart", fits
+            declared.pop(call["flat"], None)
     exported = dict(exports())
     yield f"{HEADER}: its calls are not those of odfilter_c", declared.keys() == exported.keys() and len(declared) > 20
     for name, kinds in declared.items():
@@ -189,5 +209,5 @@ def checks():
         fits = len(kinds) == len(given) and all(kind in PARAMETERS[it] for kind, it in zip(kinds, given))
         yield f"{HEADER}: the parameters of {name} are not the sources'", fits
     documented = len(re.findall(r"^uint32_t odfilter_", text_of(HEADER), re.MULTILINE))
-    is_well = documented == len(declared) and all(it["about"] for it in found["calls"])
+    is_well = documented == len(found["calls"]) and all(it["about"] for it in found["calls"])
     yield f"{HEADER}: a call that its data lacks, or that has no comment", is_well
