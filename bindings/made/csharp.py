@@ -59,7 +59,7 @@ def call(name, given, kinds):
 
 def calls(header):
     """Each call. A handle that may be null is a second form's, since a SafeHandle may not."""
-    for name, given in header.calls:
+    for name, given in header.plain_calls():
         # what frees a handle is given the variable itself
         frees = {"odfilter_handle **": "ref IntPtr"} if name == "odfilter_free" else {}
         yield call(name, given, OF_CSHARP | frees)

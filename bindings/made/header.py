@@ -19,6 +19,12 @@ class Header:
         self.schema_count = max(of_schema) + 1
         self.answer = next(it["fields"] for it in data["structs"] if it["name"] == "odfilter_answer")
         self.calls = [(it["name"], [(one["name"], one["type"]) for one in it["parameters"]]) for it in data["calls"]]
+        # of each call that takes structs its second name, by which it takes addresses and lengths, where it has one
+        self.flat = {it["name"]: it["flat"] for it in data["calls"] if "flat" in it}
+
+    def plain_calls(self):
+        """The calls by their first names."""
+        return [(name, given) for name, given in self.calls if name not in self.flat.values()]
 
     def names_by_status(self):
         """The numbers and names of faults by their status."""

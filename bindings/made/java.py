@@ -34,8 +34,7 @@ JNA = """package org.odfilter;
 import com.sun.jna.Native;
 import com.sun.jna.NativeLibrary;
 import com.sun.jna.Pointer;
-import com.sun.jna.Structure;
-
+{imports}
 /** The calls of the C library, by JNA. {made} */
 final class Library {{
     static {{
@@ -45,19 +44,41 @@ final class Library {{
     private Library() {{
     }}
 
-    /** Bytes or a buffer. */
-    @Structure.FieldOrder({{"at", "length"}})
-    public static class Bytes extends Structure implements Structure.ByValue {{
-        public Pointer at;
-        public long length;
-    }}
-
+{bytes}
     static void read(Pointer from, Answer to) {{
 {reads}    }}
 
     static void write(Answer from, Pointer to) {{
 {writes}    }}
 {calls}}}
+"""
+BY_VALUE = """    /** Bytes or a buffer: a structure by value. */
+    @Structure.FieldOrder({"at", "length"})
+    public static class Bytes extends Structure implements Structure.ByValue {
+        public Pointer at;
+        public long length;
+
+        Bytes() {
+            setAutoSynch(false);
+            write();
+        }
+
+        void set(Pointer at, long length) {
+            getPointer().setPointer(0, at);
+            getPointer().setLong(Long.BYTES, length);
+        }
+    }
+"""
+BY_ADDRESS = """    /** Bytes or a buffer: an address and a length. */
+    static final class Bytes {
+        private Pointer at;
+        private long length;
+
+        void set(Pointer at, long length) {
+            this.at = at;
+            this.length = length;
+        }
+    }
 """
 FOREIGN = """package org.odfilter;
 
@@ -101,6 +122,8 @@ final class Library {{
 OF_JNA = {"odfilter_bytes": "Bytes", "odfilter_buffer": "Bytes", "odfilter_handle **": "Pointer"}
 OF_JNA |= {"const odfilter_handle *": "Pointer", "odfilter_handle *": "Pointer", "odfilter_answer *": "Pointer"}
 OF_JNA |= {"const odfilter_answer *": "Pointer", "uint32_t": "int", "uint64_t": "long", "size_t": "long"}
+OF_JNA |= {"const char *": "Pointer", "char *": "Pointer"}
+STRUCTS = ("odfilter_bytes", "odfilter_buffer")
 OF_FOREIGN = {"odfilter_bytes": "BYTES", "odfilter_buffer": "BYTES", "uint32_t": "JAVA_INT", "uint64_t": "JAVA_LONG"}
 OF_FOREIGN |= {"size_t": "JAVA_LONG"}
 
@@ -130,14 +153,25 @@ def lines(header, line):
         )
 
 
+def declared(header, name, given):
+    """A call as JNA has it: by its second name, where it has one, which is given addresses and lengths."""
+    words = [f"{OF_JNA[kind]} {member(it)}" for it, kind in given]
+    if name not in header.flat:
+        return "\n" + shown(f"    static native int {name}(", words, ");")
+    flat = [f"{OF_JNA[kind]} {member(it)}" for it, kind in dict(header.calls)[header.flat[name]]]
+    passed = [[f"{it}.at", f"{it}.length"] if kind in STRUCTS else [member(it)] for it, kind in given]
+    body = shown(f"        return {header.flat[name]}(", [one for some in passed for one in some], ");", " " * 16)
+    head = shown(f"    static int {name}(", words, ") {")
+    return "\n" + shown(f"    static native int {header.flat[name]}(", flat, ");") + f"\n{head}{body}    }}\n"
+
+
 def by_jna(header):
-    calls = (
-        "\n" + shown(f"    static native int {name}(", [f"{OF_JNA[kind]} {member(it)}" for it, kind in given], ");")
-        for name, given in header.calls
-    )
+    calls = (declared(header, name, given) for name, given in header.plain_calls())
     reads = "".join(lines(header, "to.{name} = from.get{kind}({offset});\n"))
     writes = "".join(lines(header, "to.set{kind}({offset}, from.{name});\n"))
-    return JNA.format(made=FROM, reads=reads, writes=writes, calls="".join(calls))
+    is_flat = bool(header.flat)
+    imports, kind = ("", BY_ADDRESS) if is_flat else ("import com.sun.jna.Structure;\n", BY_VALUE)
+    return JNA.format(made=FROM, imports=imports, bytes=kind, reads=reads, writes=writes, calls="".join(calls))
 
 
 def by_foreign(header):
@@ -147,7 +181,7 @@ def by_foreign(header):
             [f'"{name}"', *(OF_FOREIGN.get(kind, "ADDRESS") for _, kind in given)],
             ");",
         )
-        for name, given in header.calls
+        for name, given in header.plain_calls()
     )
     reads = "".join(lines(header, "to.{name} = from.get({layout}, {offset});\n"))
     writes = "".join(lines(header, "to.set({layout}, {offset}, from.{name});\n"))

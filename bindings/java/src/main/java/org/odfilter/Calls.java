@@ -53,18 +53,12 @@ final class Calls {
         private final Library.Bytes bytes = new Library.Bytes();
         private Memory memory = new Memory(1024);
 
-        Region() {
-            bytes.setAutoSynch(false);
-            bytes.write();
-        }
-
         Library.Bytes of(int length) {
             boolean isTooLarge = memory.size() > LARGE && length <= LARGE;
             if (length > memory.size() || isTooLarge) {
                 memory = new Memory(Math.max(length, 1024));
             }
-            bytes.getPointer().setPointer(0, memory);
-            bytes.getPointer().setLong(Long.BYTES, length);
+            bytes.set(memory, length);
             return bytes;
         }
     }

@@ -14,11 +14,21 @@ final class Library {
     private Library() {
     }
 
-    /** Bytes or a buffer. */
+    /** Bytes or a buffer: a structure by value. */
     @Structure.FieldOrder({"at", "length"})
     public static class Bytes extends Structure implements Structure.ByValue {
         public Pointer at;
         public long length;
+
+        Bytes() {
+            setAutoSynch(false);
+            write();
+        }
+
+        void set(Pointer at, long length) {
+            getPointer().setPointer(0, at);
+            getPointer().setLong(Long.BYTES, length);
+        }
     }
 
     static void read(Pointer from, Answer to) {
