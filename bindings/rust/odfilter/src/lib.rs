@@ -20,6 +20,15 @@
 //!     shared(filter.judge().unwrap());
 //! }
 //! ```
+//!
+//! What was dropped cannot be used:
+//!
+//! ```compile_fail,E0382
+//! fn dropped(filter: odfilter::Filter) {
+//!     drop(filter);
+//!     filter.node_count();
+//! }
+//! ```
 #![warn(missing_docs)]
 
 mod calls;
