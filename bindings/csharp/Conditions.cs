@@ -12,7 +12,8 @@ namespace Odfilter
         Sqlite,
     }
 
-    /// <summary>An expression of SQL over a table t. Its parameters are numbered from 1; each is a long or a string.</summary>
+    /// <summary>An expression of SQL over a table t. Its parameters are numbered from 1; each is a long or a
+    /// string.</summary>
     public sealed class Statement
     {
         internal Statement(string text, IReadOnlyList<object> parameters)
@@ -26,9 +27,9 @@ namespace Odfilter
         public IReadOnlyList<object> Parameters { get; }
     }
 
-    /// <summary>What a filter says of the rows of a table. Outcome is 0 for false, 1 for true, 2 for null, 3 for Overflow
-    /// and 4 for DivideByZero; Keep is true where the filter is; Fault, where it has a fault, and null where no row can
-    /// have one.</summary>
+    /// <summary>What a filter says of the rows of a table. Outcome is 0 for false, 1 for true, 2 for null, 3 for
+    /// Overflow and 4 for DivideByZero; Keep is true where the filter is; Fault, where it has a fault, and null where
+    /// no row can have one.</summary>
     public sealed class Conditions
     {
         internal Conditions(IReadOnlyDictionary<string, Statement> statements)
@@ -46,8 +47,8 @@ namespace Odfilter
         public Statement Fault { get; }
     }
 
-    /// <summary>Reads conditions as the library writes them: JSON of objects, arrays, strings and whole numbers, without
-    /// spaces. .NET Standard 2.0 has no reader of JSON.</summary>
+    /// <summary>Reads conditions as the library writes them: JSON of objects, arrays, strings and whole numbers,
+    /// without spaces. .NET Standard 2.0 has no reader of JSON.</summary>
     internal sealed class ConditionsReader
     {
         private readonly string json;

@@ -17,7 +17,8 @@ namespace Odfilter
             return TryCheck(text, out filter, out refusal) ? filter : throw refusal;
         }
 
-        /// <summary>Checks the text of a filter. Where it is refused nothing is thrown, and the refusal says why.</summary>
+        /// <summary>Checks the text of a filter. Where it is refused nothing is thrown, and the refusal says
+        /// why.</summary>
         public bool TryCheck(string text, out Filter filter, out FilterRefusedException refusal)
         {
             var given = Text.Utf8(text);
@@ -28,8 +29,8 @@ namespace Odfilter
             return IsMade(status, made, answer, given, () => given, out filter, out refusal);
         }
 
-        /// <summary>Checks the filter among any options of a query string, as it stands in a URL after the '?'. Null where
-        /// there is none; a FilterRefusedException or QueryRefusedException says why it is refused.</summary>
+        /// <summary>Checks the filter among any options of a query string, as it stands in a URL after the '?'. Null
+        /// where there is none; a FilterRefusedException or QueryRefusedException says why it is refused.</summary>
         public Filter CheckUrl(byte[] query)
         {
             Filter filter;
@@ -60,8 +61,8 @@ namespace Odfilter
             return IsMade(status, made, answer, query, () => text, out filter, out refusal);
         }
 
-        /// <summary>Checks the filter of a query string with no other option of the standard's. Null where there is none;
-        /// a FilterRefusedException or QueryRefusedException says why it is refused.</summary>
+        /// <summary>Checks the filter of a query string with no other option of the standard's. Null where there is
+        /// none; a FilterRefusedException or QueryRefusedException says why it is refused.</summary>
         public Filter CheckQuery(byte[] query)
         {
             var type = Open;

@@ -25,7 +25,8 @@ namespace Odfilter
         /// <summary>Of CheckUrl: the bytes of the query that the filter's option takes, name and value.</summary>
         public ByteSpan Piece { get; }
 
-        /// <summary>Of CheckUrl: the bytes of the query that the option's value takes, into which another may be put.</summary>
+        /// <summary>Of CheckUrl: the bytes of the query that the option's value takes, into which another may be
+        /// put.</summary>
         public ByteSpan Value { get; }
 
         /// <summary>One text for all filters that differ in spaces, parentheses and spelling alone.</summary>
@@ -99,8 +100,9 @@ namespace Odfilter
             return NewJudge(now.ToString("yyyy-MM-dd'T'HH:mm:ss.fffffffzzz", CultureInfo.InvariantCulture), bound);
         }
 
-        /// <summary>The filter as conditions of SQL over a table that has a column for each property: the one that columns
-        /// has for it, else one of its name; or, with a document, over the column of that name with each row as JSON.</summary>
+        /// <summary>The filter as conditions of SQL over a table that has a column for each property: the one that
+        /// columns has for it, else one of its name; or, with a document, over the column of that name with each row as
+        /// JSON.</summary>
         public Conditions Sql(SqlDialect dialect, IReadOnlyDictionary<string, string> columns = null,
             string document = null, string now = null)
         {

@@ -17,7 +17,8 @@ namespace Odfilter
         }
     }
 
-    /// <summary>A handle of the library. It is freed once no call uses it, by Dispose or when it is collected.</summary>
+    /// <summary>A handle of the library. It is freed once no call uses it, by Dispose or when it is
+    /// collected.</summary>
     internal sealed class Handle : SafeHandle
     {
         private Handle under;
@@ -54,7 +55,8 @@ namespace Odfilter
         }
     }
 
-    /// <summary>What a schema, a type, a filter and a judge have in common: a handle, until they are disposed of.</summary>
+    /// <summary>What a schema, a type, a filter and a judge have in common: a handle, until they are disposed
+    /// of.</summary>
     public abstract class Held : IDisposable
     {
         private readonly Handle handle;

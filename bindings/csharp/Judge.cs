@@ -3,7 +3,8 @@ using System.Collections.Generic;
 
 namespace Odfilter
 {
-    /// <summary>Lines that a judge keeps, each with its line feed, and how many rows there were and were kept.</summary>
+    /// <summary>Lines that a judge keeps, each with its line feed, and how many rows there were and were
+    /// kept.</summary>
     public sealed class KeptLines
     {
         internal KeptLines(byte[] text, Answer answer)
@@ -20,8 +21,8 @@ namespace Odfilter
         public ulong Kept { get; }
     }
 
-    /// <summary>What judges rows by a filter. Reuse it: it caches how rows of that shape are read. Its calls wait for one
-    /// another.</summary>
+    /// <summary>What judges rows by a filter. Reuse it: it caches how rows of that shape are read. Its calls wait for
+    /// one another.</summary>
     public sealed class Judge : Held
     {
         private readonly object oneCall = new object();
@@ -94,8 +95,8 @@ namespace Odfilter
         }
 
         /// <summary>Judges rows, one JSON object a line, and returns those on which the filter is true. Blank lines are
-        /// passed over, and the judge's bound does not hold. The first line at fault is a RowException, which has what is
-        /// kept before it.</summary>
+        /// passed over, and the judge's bound does not hold. The first line at fault is a RowException, which has what
+        /// is kept before it.</summary>
         public unsafe KeptLines FilterLines(byte[] rows)
         {
             lock (oneCall)

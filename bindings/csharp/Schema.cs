@@ -3,8 +3,8 @@ using System.IO;
 
 namespace Odfilter
 {
-    /// <summary>A schema, read from a CSDL JSON document. Any number of threads may use one schema, type or filter. They
-    /// may share a judge too, but its calls wait for one another.</summary>
+    /// <summary>A schema, read from a CSDL JSON document. Any number of threads may use one schema, type or filter.
+    /// They may share a judge too, but its calls wait for one another.</summary>
     public sealed class Schema : Held
     {
         private Schema(Handle made) : base(made)
@@ -65,8 +65,8 @@ namespace Odfilter
             }
         }
 
-        /// <summary>The entity type of that name, with its namespace or the alias of that; or an UnknownTypeException is
-        /// thrown.</summary>
+        /// <summary>The entity type of that name, with its namespace or the alias of that; or an UnknownTypeException
+        /// is thrown.</summary>
         public EntityType Type(string name)
         {
             Handle made = null;

@@ -53,7 +53,8 @@ namespace Odfilter
             }
         }
 
-        /// <summary>The bytes that a call writes into a buffer, which grows to the length that the call asks for.</summary>
+        /// <summary>The bytes that a call writes into a buffer, which grows to the length that the call asks
+        /// for.</summary>
         internal static unsafe byte[] Written(Writer call)
         {
             var text = new byte[256];
@@ -126,7 +127,8 @@ namespace Odfilter
             var count = 0;
             for (var at = 0; at < text.Length; at++)
             {
-                if (text[at] == '%' && at + 2 < text.Length && Uri.IsHexDigit(text[at + 1]) && Uri.IsHexDigit(text[at + 2]))
+                var isEscape = text[at] == '%' && at + 2 < text.Length;
+                if (isEscape && Uri.IsHexDigit(text[at + 1]) && Uri.IsHexDigit(text[at + 2]))
                 {
                     bytes[count++] = Convert.ToByte(text.Substring(at + 1, 2), 16);
                     at += 2;

@@ -29,7 +29,8 @@ func (v Verdict) String() string {
 	}
 }
 
-// A Judge judges rows by one filter. Reuse it: it caches how rows of that shape are read. Its calls wait for one another.
+// A Judge judges rows by one filter. Reuse it: it caches how rows of that shape are read. Its calls wait for one
+// another.
 type Judge struct {
 	*owner
 	oneCall sync.Mutex
@@ -52,8 +53,8 @@ func At(now string) JudgeOption {
 // AtTime sets the moment that now() stands for.
 func AtTime(now time.Time) JudgeOption { return At(now.Format(time.RFC3339Nano)) }
 
-// Within bounds what the filter may cost on each row of Verdict: how many times it judges the body of an any() or all(),
-// and how many items of lists after `in` it compares within one.
+// Within bounds what the filter may cost on each row of Verdict: how many times it judges the body of an any() or
+// all(), and how many items of lists after `in` it compares within one.
 func Within(bound uint64) JudgeOption {
 	return func(judge handle) error {
 		setBound(judge, bound)
@@ -104,8 +105,9 @@ type Kept struct {
 	Rows, Kept uint64
 }
 
-// FilterLines judges rows, one JSON object a line, and returns those on which the filter is true. Blank lines are passed
-// over, and the judge's bound does not hold. The first line at fault is a *RowError, which has what is kept before it.
+// FilterLines judges rows, one JSON object a line, and returns those on which the filter is true. Blank lines are
+// passed over, and the judge's bound does not hold. The first line at fault is a *RowError, which has what is kept
+// before it.
 func (j *Judge) FilterLines(rows []byte) (Kept, error) {
 	by, err := j.use()
 	if err != nil {

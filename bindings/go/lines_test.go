@@ -78,7 +78,8 @@ func TestKeepOfFaultyReaders(t *testing.T) {
 	if _, err := io.ReadAll(judge.Keep(idle{})); err != io.ErrNoProgress {
 		t.Error(err)
 	}
-	long := io.MultiReader(bytes.NewReader(first), strings.NewReader(strings.Repeat(" ", lineLimit+1)), iotest.ErrReader(broken))
+	spaces := strings.NewReader(strings.Repeat(" ", lineLimit+1))
+	long := io.MultiReader(bytes.NewReader(first), spaces, iotest.ErrReader(broken))
 	var fault *RowError
 	got, err := io.ReadAll(judge.Keep(long))
 	if !errors.As(err, &fault) || fault.Code != "LineTooLong" || fault.Line != 2 || !bytes.Equal(got, first) {

@@ -1,5 +1,5 @@
-// Package odfilter checks OData 4.01 $filter expressions against a CSDL JSON schema, and judges JSON rows with them: the
-// C library odfilter, by cgo.
+// Package odfilter checks OData 4.01 $filter expressions against a CSDL JSON schema, and judges JSON rows with them:
+// the C library odfilter, by cgo.
 //
 //	schema, err := odfilter.ReadSchema(document)
 //	product, err := schema.Type("Shop.Product")
@@ -60,8 +60,8 @@ func namesOf(a *answer) int {
 	}
 }
 
-// Type finds the entity type of that name, with its namespace or the alias of that. An *UnknownTypeError says that there
-// is none.
+// Type finds the entity type of that name, with its namespace or the alias of that. An *UnknownTypeError says that
+// there is none.
 func (s *Schema) Type(name string) (*Type, error) {
 	in, err := s.use()
 	if err != nil {

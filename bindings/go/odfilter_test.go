@@ -113,13 +113,15 @@ func TestErrors(t *testing.T) {
 		t.Errorf("%#v", err)
 	}
 	var schema *SchemaError
-	_, err = ReadSchema([]byte(`{"$Version":"4.01","N":{"` + strings.Repeat("A", 999) + `":{"$Kind":"EntityType","P":5}}}`))
-	if !errors.As(err, &schema) || schema.Code != "BadProperty" || schema.Names[0] != "N."+strings.Repeat("A", 999) ||
+	name := strings.Repeat("A", 999)
+	_, err = ReadSchema([]byte(`{"$Version":"4.01","N":{"` + name + `":{"$Kind":"EntityType","P":5}}}`))
+	if !errors.As(err, &schema) || schema.Code != "BadProperty" || schema.Names[0] != "N."+name ||
 		!reflect.DeepEqual(schema.Names[1:], []string{"P"}) {
 		t.Errorf("%#v", err)
 	}
 	var unknown *UnknownTypeError
-	if _, err = must(ReadSchema([]byte(document))).Type("Mini.No"); !errors.As(err, &unknown) || unknown.Name != "Mini.No" {
+	_, err = must(ReadSchema([]byte(document))).Type("Mini.No")
+	if !errors.As(err, &unknown) || unknown.Name != "Mini.No" {
 		t.Errorf("%#v", err)
 	}
 	var fault *RowError

@@ -191,4 +191,5 @@ def by_foreign(header):
 def files(header):
     source = "java/src/main/{}/org/odfilter/{}.java"
     found = {source.format("java", "Numbers"): numbers(header), source.format("java", "Answer"): answer(header)}
-    return found | {source.format("java", "Library"): by_jna(header), source.format("java22", "Library"): by_foreign(header)}
+    found[source.format("java", "Library")] = by_jna(header)
+    return found | {source.format("java22", "Library"): by_foreign(header)}

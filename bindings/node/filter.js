@@ -10,7 +10,7 @@ const FORMS = {
   sqlite: [FORM.SQLITE_COLUMNS, FORM.SQLITE_JSON],
 };
 
-/** A checked filter. `piece` and `value` of `checkUrl` are where its option and the option's value stand in the query. */
+/** A checked filter. Of `checkUrl`, `piece` and `value` are where its option and that one's value stand in the query. */
 class Filter extends Held {
   constructor(handle, text, piece, value) {
     super(handle);

@@ -57,7 +57,7 @@ export class EntityType extends Held {
   private constructor();
   /** Throws FilterRefused. */
   check(text: string): Filter;
-  /** The filter among any options of a query, as it stands in a URL after the `?`. Throws FilterRefused, QueryRefused. */
+  /** The filter among any options of a query, as it stands in a URL after `?`. Throws FilterRefused, QueryRefused. */
   checkUrl(query: BytesOrText): Filter | undefined;
   /** The filter of a query with no other option of the standard's. Throws FilterRefused, QueryRefused. */
   checkQuery(query: BytesOrText): Filter | undefined;

@@ -4,10 +4,10 @@ using System.Threading.Tasks;
 using Microsoft.AspNetCore.Http;
 using Odfilter;
 
-/// <summary>An endpoint filter for ASP.NET Core: app.MapGet("/Items", ..).AddEndpointFilter(new CheckedFilter(entities)).
-/// It passes on requests whose $filter is accepted and has at most so many nodes, with its canonical text in the query,
-/// and answers others by 400 and the standard's error body. An endpoint has the filter as the item FilterItem, until it
-/// has answered.</summary>
+/// <summary>An endpoint filter for ASP.NET Core: app.MapGet("/Items", ..).AddEndpointFilter(new
+/// CheckedFilter(entities)). It passes on requests whose $filter is accepted and has at most so many nodes, with its
+/// canonical text in the query, and answers others by 400 and the standard's error body. An endpoint has the filter as
+/// the item FilterItem, until it has answered.</summary>
 public sealed class CheckedFilter : IEndpointFilter
 {
     public const string FilterItem = "odata.filter";

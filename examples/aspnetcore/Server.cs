@@ -7,8 +7,8 @@ using System.Threading.Tasks;
 using Microsoft.AspNetCore.Http;
 using Odfilter;
 
-/// <summary>A service that checks each $filter, over the stubs and one socket: `Server.exe SCHEMA TYPE PORT`. It answers a
-/// request by the query that reaches its endpoint, and by the paths that the filter reads.</summary>
+/// <summary>A service that checks each $filter, over the stubs and one socket: `Server.exe SCHEMA TYPE PORT`. It
+/// answers a request by the query that reaches its endpoint, and by the paths that the filter reads.</summary>
 internal static class Server
 {
     private static void Main(string[] words)
@@ -42,7 +42,8 @@ internal static class Server
         var body = Encoding.UTF8.GetBytes(refused == null ? (string)answer : Json.Of(refused.Value));
         var status = refused == null ? "200 OK" : refused.StatusCode + " refused";
         var kind = refused == null ? "text/plain" : "application/json";
-        var head = "HTTP/1.1 " + status + "\r\nContent-Type: " + kind + "\r\nContent-Length: " + body.Length + "\r\n\r\n";
+        var head = "HTTP/1.1 " + status + "\r\nContent-Type: " + kind;
+        head += "\r\nContent-Length: " + body.Length + "\r\n\r\n";
         stream.Write(Encoding.ASCII.GetBytes(head), 0, head.Length);
         stream.Write(body, 0, body.Length);
     }

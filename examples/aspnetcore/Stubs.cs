@@ -1,5 +1,5 @@
-// What CheckedFilter.cs takes of ASP.NET Core, which Debian has not, in a form that compiles and answers: for the test of
-// the example, and to be left out of a service. The server beside it stands in for Kestrel.
+// What CheckedFilter.cs takes of ASP.NET Core, which Debian has not, in a form that compiles and answers: for the test
+// of the example, and to be left out of a service. The server beside it stands in for Kestrel.
 using System.Collections;
 using System.Collections.Generic;
 using System.Linq;

@@ -16,9 +16,9 @@ function withValue(url, filter, text) {
 }
 
 /**
- * Middleware for Express and Connect. It passes on requests whose filter is accepted and has at most so many nodes, with
- * its canonical text in the address, and answers others by 400. A handler has the filter as `request.odataFilter`, until
- * the answer is finished.
+ * Middleware for Express and Connect. It passes on requests whose filter is accepted and has at most so many nodes,
+ * with its canonical text in the address, and answers others by 400. A handler has the filter as `request.odataFilter`,
+ * until the answer is finished.
  */
 function checked(entities, { mostNodes = 100 } = {}) {
   return (request, response, next) => {

@@ -1,6 +1,6 @@
 'use strict';
-// A service behind Express that checks each $filter: `node server.js SCHEMA TYPE PORT`. It answers a request by the query
-// that reaches its handler, and by the paths that the filter reads.
+// A service behind Express that checks each $filter: `node server.js SCHEMA TYPE PORT`. It answers a request by the
+// query that reaches its handler, and by the paths that the filter reads.
 const { readFileSync } = require('node:fs');
 const express = require('express');
 const { Schema } = require('odfilter');

@@ -1,5 +1,5 @@
-// A service behind net/http that checks each $filter: `go run . SCHEMA TYPE PORT`. It answers a request by the query that
-// reaches its handler, and by the paths that the filter reads.
+// A service behind net/http that checks each $filter: `go run . SCHEMA TYPE PORT`. It answers a request by the query
+// that reaches its handler, and by the paths that the filter reads.
 package main
 
 import (

@@ -14,8 +14,8 @@ import org.odfilter.FilterRefusedException;
 import org.odfilter.QueryRefusedException;
 
 /**
- * A Servlet filter. It passes on requests whose $filter is accepted and has at most so many nodes, with its canonical text
- * in the query, and answers others by 400 and the standard's error body. A servlet has the filter as the attribute
+ * A Servlet filter. It passes on requests whose $filter is accepted and has at most so many nodes, with its canonical
+ * text in the query, and answers others by 400 and the standard's error body. A servlet has the filter as the attribute
  * FILTER, until it has answered.
  */
 final class CheckedFilter implements Filter {

@@ -12,8 +12,8 @@ import org.odfilter.Filter;
 import org.odfilter.Schema;
 
 /**
- * A service in Tomcat that checks each $filter: `Server SCHEMA TYPE PORT`. It answers a request by the query that reaches
- * its servlet, and by the paths that the filter reads.
+ * A service in Tomcat that checks each $filter: `Server SCHEMA TYPE PORT`. It answers a request by the query that
+ * reaches its servlet, and by the paths that the filter reads.
  */
 public final class Server {
     private static final long MOST_NODES = 100;

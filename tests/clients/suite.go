@@ -53,7 +53,11 @@ func (c *client) answer(word string, next func() []byte) string {
 		if c.filter == nil {
 			return "nothing"
 		}
-		text, err := map[string]func() (string, error){"canonical": c.filter.Canonical, "explain": c.filter.Explanation}[word]()
+		call := c.filter.Canonical
+		if word == "explain" {
+			call = c.filter.Explanation
+		}
+		text, err := call()
 		return text + report(err)
 	}
 	rows, moment := next(), string(next())

@@ -104,7 +104,8 @@ internal static partial class Tests
         }
     }
 
-    /// <summary>A million calls leave the memory of the process as it was, with some objects that nobody closes.</summary>
+    /// <summary>A million calls leave the memory of the process as it was, with some objects that nobody
+    /// closes.</summary>
     private static void ChecksOfGrowth()
     {
         Calls(10000);

@@ -103,7 +103,8 @@ internal static partial class Tests
         That("TryCheck", Item().TryCheck("Active", out made, out refusal) && refusal == null, refusal);
         That("TryCheck refuses", !Item().TryCheck("Foo", out made, out refusal) && made == null, made);
         Same("its refusal", refusal.Code, "UnknownProperty");
-        That("a stream", Schema.Read(new MemoryStream(Encoding.UTF8.GetBytes(Document))).Type("Mini.Item") != null, null);
+        var stream = new MemoryStream(Encoding.UTF8.GetBytes(Document));
+        That("a stream", Schema.Read(stream).Type("Mini.Item") != null, null);
     }
 
     private static void ChecksOfVerdicts()
@@ -207,7 +208,8 @@ internal static partial class Tests
         var found = judge.FilterLines(Encoding.UTF8.GetBytes(all));
         Same("kept", Encoding.UTF8.GetString(found.Text) + found.Rows + found.Kept, row + "\n" + row + "\n32");
         var fault = Thrown<RowException>(() => judge.FilterLines(Encoding.UTF8.GetBytes(all + "\n{}\n" + row)));
-        Same("a fault", fault.Code + fault.Line + Encoding.UTF8.GetString(fault.Kept), "Missing5" + row + "\n" + row + "\n");
+        var kept = Encoding.UTF8.GetString(fault.Kept);
+        Same("a fault", fault.Code + fault.Line + kept, "Missing5" + row + "\n" + row + "\n");
         var large = new byte[(1 << 20) + 1];
         Same("too long", Thrown<RowException>(() => judge.FilterLines(large)).Code, "LineTooLong");
         SameList("rows", judge.Keep(new[] { row, Row(2, "null", false), row }), row, row);

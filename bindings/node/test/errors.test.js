@@ -56,7 +56,7 @@ test('codes of errors that say everything', () => {
     MomentNeeded: [() => needs.judge().verdict(text), () => needs.sql('sqlite')],
     NotAMoment: [() => needs.judge({ now: 'soon' }), () => needs.sql('sqlite', { now: '2026-01-01T00:00:00Z\nID=x' })],
     TooCostly: [() => item().check("Tags/any(t:t eq 'z')").judge({ bound: 2 }).verdict(text)],
-    UnknownColumn: [() => active.sql('sqlite', { columns: { No: 'x' } }), () => active.sql('sqlite', { columns: { 'ID=': 'x' } })],
+    UnknownColumn: ['No', 'ID='].map((name) => () => active.sql('sqlite', { columns: { [name]: 'x' } })),
     Nul: [() => item().check("Name eq 'a\0'").sql('sqlite')],
     TooDeep: [() => item().check(`${'(ID add '.repeat(60)}ID${')'.repeat(60)} eq 1`).sql('sqlite')],
   };

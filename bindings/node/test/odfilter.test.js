@@ -53,7 +53,8 @@ if (!isMainThread) {
 
   test('threads: each worker has its own schema, and answers as all others', async () => {
     const workers = Array.from({ length: 8 }, (_, number) => new Worker(__filename, { workerData: number }));
-    const codes = await Promise.all(workers.map((it) => new Promise((done, fail) => it.on('exit', done).on('error', fail))));
+    const ended = (it) => new Promise((done, fail) => it.on('exit', done).on('error', fail));
+    const codes = await Promise.all(workers.map(ended));
     assert.deepEqual(codes, Array(8).fill(0));
   });
 

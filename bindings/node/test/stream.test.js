@@ -11,7 +11,8 @@ const LINE_LIMIT = 1 << 20;
 
 /** Lines of which one may be at fault, and those that are kept before it. */
 function lines(count, faulty) {
-  const all = Array.from({ length: count }, (_, n) => (n === faulty ? '{}' : n % 7 === 0 ? ' \t' : row(n, 'null', n % 3 === 0)));
+  const line = (n) => (n % 7 === 0 ? ' \t' : row(n, 'null', n % 3 === 0));
+  const all = Array.from({ length: count }, (_, n) => (n === faulty ? '{}' : line(n)));
   const kept = all.slice(0, faulty < 0 ? count : faulty).filter((_, n) => n % 7 !== 0 && n % 3 === 0);
   return [all.map((it) => `${it}\n`).join(''), kept.map((it) => `${it}\n`).join('')];
 }
@@ -19,7 +20,8 @@ function lines(count, faulty) {
 /** What a stream gives for chunks of so many bytes, and its error. */
 async function streamed(text, size) {
   const bytes = Buffer.from(text);
-  const chunks = Array.from({ length: Math.ceil(bytes.length / size) }, (_, n) => bytes.subarray(n * size, (n + 1) * size));
+  const count = Math.ceil(bytes.length / size);
+  const chunks = Array.from({ length: count }, (_, n) => bytes.subarray(n * size, (n + 1) * size));
   const got = [];
   try {
     for await (const chunk of Readable.from(chunks, { objectMode: false }).pipe(judge().stream())) got.push(chunk);
@@ -35,7 +37,8 @@ test('lines of a block', () => {
   assert.equal(found.text.toString(), kept);
   assert.deepEqual([found.rows, found.kept], [85, kept.split('\n').length - 1]);
   const [faulty, before] = lines(100, 50);
-  assert.throws(() => judge().filterLines(faulty), (it) => it.line === 51 && it.code === 'Missing' && it.kept.toString() === before);
+  const isWell = (it) => it.line === 51 && it.code === 'Missing' && it.kept.toString() === before;
+  assert.throws(() => judge().filterLines(faulty), isWell);
 });
 
 test('a stream of lines, in chunks of any size', async () => {
@@ -44,7 +47,8 @@ test('a stream of lines, in chunks of any size', async () => {
       const [all, kept] = lines(2000, faulty);
       const [got, error] = await streamed(all, size);
       assert.equal(got, kept, `${size} ${faulty}`);
-      assert.deepEqual(error && [error.code, error.line, error.kept.length], faulty < 0 ? undefined : ['Missing', faulty + 1, 0]);
+      const wanted = faulty < 0 ? undefined : ['Missing', faulty + 1, 0];
+      assert.deepEqual(error && [error.code, error.line, error.kept.length], wanted);
     }
     const last = row(3, 'null', true);
     assert.deepEqual(await streamed(last, size), [`${last}\n`, undefined]);

@@ -14,7 +14,7 @@ try {
   console.log(verdict, parameter, found, kept.length, filter.nodeCount + 1, version().length);
   filter.dispose();
 } catch (error) {
-  if (error instanceof FilterRefused) console.log(error.span[0], error.byteSpan[1], error.pointed, error.kind === 'type');
+  if (error instanceof FilterRefused) console.log(error.span[0], error.byteSpan[1], error.pointed, error.kind);
   else if (error instanceof RowFault) console.log(error.path, error.line + 1, error.kept.length);
   else if (error instanceof ODataError) console.log(error.code);
 }

@@ -1,4 +1,5 @@
-//! Finds the C library: in the folder ODFILTER_DIR, as `bindings/c/build FOLDER` leaves it, beside this crate in the folder
+//! Finds the C library: in the folder ODFILTER_DIR, as `bindings/c/build FOLDER` leaves it, beside this crate in the
+//! folder
 //! `lib`, or by pkg-config. What is found is linked statically.
 use std::path::Path;
 use std::process::Command;

@@ -11,8 +11,8 @@
 //! # }
 //! ```
 //!
-//! `Schema`, `EntityType` and `Filter` are `Send`, `Sync` and cheap to clone; a `Judge` is `Send` and takes `&mut self`,
-//! so the compiler keeps it to one call at a time. All are freed when they are dropped, in any order.
+//! `Schema`, `EntityType` and `Filter` are `Send`, `Sync` and cheap to clone; a `Judge` is `Send` and takes `&mut
+//! self`, so the compiler keeps it to one call at a time. All are freed when they are dropped, in any order.
 //!
 //! ```compile_fail
 //! fn shared<T: Sync>(_: T) {}

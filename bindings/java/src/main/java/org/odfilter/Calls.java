@@ -4,8 +4,8 @@ import com.sun.jna.Memory;
 import com.sun.jna.Pointer;
 
 /**
- * The calls of the C library over arrays, by JNA. Each returns its status. A handle is its address; what a call makes is
- * written into the first element of an array. For Java 22 and later another class of this name does the same by
+ * The calls of the C library over arrays, by JNA. Each returns its status. A handle is its address; what a call makes
+ * is written into the first element of an array. For Java 22 and later another class of this name does the same by
  * java.lang.foreign.
  */
 final class Calls {

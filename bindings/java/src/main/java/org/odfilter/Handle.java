@@ -12,7 +12,7 @@ final class Handle implements AutoCloseable {
     private final Cleaner.Cleanable cleanable;
     private volatile boolean isClosed;
 
-    /** The handle with the count of its users: its owner, calls under way, and judges. It must not lead to its owner. */
+    /** The handle with the count of its users: its owner, calls under way, and judges. It never leads to its owner. */
     static final class Shared implements Runnable {
         private final long at;
         private final Shared under;

@@ -4,7 +4,7 @@ import java.time.Instant;
 import java.util.Arrays;
 import java.util.stream.Stream;
 
-/** What judges rows by a filter. Reuse it: it caches how rows of that shape are read. Its calls wait for one another. */
+/** Judges rows by a filter. Reuse it: it caches how rows of that shape are read. Its calls wait for one another. */
 public final class Judge implements AutoCloseable {
     private final Handle handle;
     private final Answer answer = new Answer();

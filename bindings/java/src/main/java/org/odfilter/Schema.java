@@ -6,8 +6,8 @@ import java.util.Arrays;
  * A schema, read from a CSDL JSON document.
  *
  * <p>Any number of threads may use one schema, type or filter. They may share a judge too, but its calls wait for one
- * another. Each is closed in any order, and freed when it is collected where nobody closes it; what is asked of one that
- * is closed is an IllegalStateException.
+ * another. Each is closed in any order, and freed when it is collected where nobody closes it; what is asked of one
+ * that is closed is an IllegalStateException.
  */
 public final class Schema implements AutoCloseable {
     private final Handle handle;

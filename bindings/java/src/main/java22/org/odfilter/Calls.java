@@ -8,8 +8,8 @@ import java.lang.foreign.Arena;
 import java.lang.foreign.MemorySegment;
 
 /**
- * The calls of the C library over arrays, by java.lang.foreign. Each returns its status. A handle is its address; what a
- * call makes is written into the first element of an array.
+ * The calls of the C library over arrays, by java.lang.foreign. Each returns its status. A handle is its address; what
+ * a call makes is written into the first element of an array.
  */
 final class Calls {
     private static final ThreadLocal<Scratch> SCRATCH = ThreadLocal.withInitial(Scratch::new);
