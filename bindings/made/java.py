@@ -48,6 +48,10 @@ final class Library {{
     static void read(Pointer from, Answer to) {{
 {reads}    }}
 
+    /** Reads of an answer the verdict alone. */
+    static void readVerdict(Pointer from, Answer to) {{
+{verdict}    }}
+
     static void write(Answer from, Pointer to) {{
 {writes}    }}
 {calls}}}
@@ -115,6 +119,10 @@ final class Library {{
     static void read(MemorySegment from, Answer to) {{
 {reads}    }}
 
+    /** Reads of an answer the verdict alone. */
+    static void readVerdict(MemorySegment from, Answer to) {{
+{verdict}    }}
+
     static void write(Answer from, MemorySegment to) {{
 {writes}    }}
 }}
@@ -171,7 +179,9 @@ def by_jna(header):
     writes = "".join(lines(header, "to.set{kind}({offset}, from.{name});\n"))
     is_flat = bool(header.flat)
     imports, kind = ("", BY_ADDRESS) if is_flat else ("import com.sun.jna.Structure;\n", BY_VALUE)
-    return JNA.format(made=FROM, imports=imports, bytes=kind, reads=reads, writes=writes, calls="".join(calls))
+    verdict = next(it for it in reads.splitlines(keepends=True) if "to.verdict" in it)
+    parts = {"imports": imports, "bytes": kind, "reads": reads, "verdict": verdict, "writes": writes}
+    return JNA.format(made=FROM, calls="".join(calls), **parts)
 
 
 def by_foreign(header):
@@ -185,7 +195,8 @@ def by_foreign(header):
     )
     reads = "".join(lines(header, "to.{name} = from.get({layout}, {offset});\n"))
     writes = "".join(lines(header, "to.set({layout}, {offset}, from.{name});\n"))
-    return FOREIGN.format(made=FROM, reads=reads, writes=writes, calls="".join(calls))
+    verdict = next(it for it in reads.splitlines(keepends=True) if "to.verdict" in it)
+    return FOREIGN.format(made=FROM, reads=reads, verdict=verdict, writes=writes, calls="".join(calls))
 
 
 def files(header):

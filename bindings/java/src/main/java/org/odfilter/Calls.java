@@ -151,7 +151,11 @@ final class Calls {
     static int judgeNext(long judge, byte[] row, Answer answer) {
         Scratch it = SCRATCH.get();
         int status = Library.odfilter_judge_next(at(judge), it.borrowed(row), it.answer);
-        Library.read(it.answer, answer);
+        if (status == Numbers.OK) {
+            Library.readVerdict(it.answer, answer);
+        } else {
+            Library.read(it.answer, answer);
+        }
         return status;
     }
 

@@ -47,6 +47,11 @@ final class Library {
         to.valueStop = from.getLong(88);
     }
 
+    /** Reads of an answer the verdict alone. */
+    static void readVerdict(Pointer from, Answer to) {
+        to.verdict = from.getInt(4);
+    }
+
     static void write(Answer from, Pointer to) {
         to.setInt(0, from.fault);
         to.setInt(4, from.verdict);

@@ -223,7 +223,12 @@ final class Calls {
         Scratch it = SCRATCH.get();
         try {
             int status = (int) Library.JUDGE_NEXT.invokeExact(at(judge), it.borrowed(row), it.answer);
-            return it.read(status, Text.NONE, answer);
+            if (status == Numbers.OK) {
+                Library.readVerdict(it.answer, answer);
+            } else {
+                Library.read(it.answer, answer);
+            }
+            return status;
         } catch (Throwable error) {
             throw unexpected(error);
         }

@@ -72,6 +72,11 @@ final class Library {
         to.valueStop = from.get(JAVA_LONG, 88);
     }
 
+    /** Reads of an answer the verdict alone. */
+    static void readVerdict(MemorySegment from, Answer to) {
+        to.verdict = from.get(JAVA_INT, 4);
+    }
+
     static void write(Answer from, MemorySegment to) {
         to.set(JAVA_INT, 0, from.fault);
         to.set(JAVA_INT, 4, from.verdict);
