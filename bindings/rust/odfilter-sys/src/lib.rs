@@ -184,4 +184,47 @@ extern "C" {
     pub fn odfilter_fault_text(
         r#type: *const odfilter_handle, status: u32, text: odfilter_bytes, sentence: odfilter_buffer,
         fault: *const odfilter_answer, answer: *mut odfilter_answer) -> u32;
+    pub fn odfilter_flat_read_schema(
+        document: *const c_char, document_length: usize, names: *mut c_char, names_length: usize,
+        schema: *mut *mut odfilter_handle, answer: *mut odfilter_answer) -> u32;
+    pub fn odfilter_flat_find_type(
+        schema: *const odfilter_handle, name: *const c_char, name_length: usize,
+        r#type: *mut *mut odfilter_handle) -> u32;
+    pub fn odfilter_flat_check(
+        r#type: *const odfilter_handle, text: *const c_char, text_length: usize, filter: *mut *mut odfilter_handle,
+        answer: *mut odfilter_answer) -> u32;
+    pub fn odfilter_flat_check_query(
+        r#type: *const odfilter_handle, query: *const c_char, query_length: usize, filter: *mut *mut odfilter_handle,
+        answer: *mut odfilter_answer) -> u32;
+    pub fn odfilter_flat_check_url(
+        r#type: *const odfilter_handle, query: *const c_char, query_length: usize, text: *mut c_char,
+        text_length: usize, filter: *mut *mut odfilter_handle, answer: *mut odfilter_answer) -> u32;
+    pub fn odfilter_flat_canonical(
+        filter: *const odfilter_handle, text: *mut c_char, text_length: usize, answer: *mut odfilter_answer) -> u32;
+    pub fn odfilter_flat_explain(
+        filter: *const odfilter_handle, text: *mut c_char, text_length: usize, answer: *mut odfilter_answer) -> u32;
+    pub fn odfilter_flat_property_paths(
+        filter: *const odfilter_handle, paths: *mut c_char, paths_length: usize, answer: *mut odfilter_answer) -> u32;
+    pub fn odfilter_flat_sql(
+        filter: *const odfilter_handle, form: u32, how: *const c_char, how_length: usize, text: *mut c_char,
+        text_length: usize, answer: *mut odfilter_answer) -> u32;
+    pub fn odfilter_flat_set_moment(judge: *mut odfilter_handle, moment: *const c_char, moment_length: usize) -> u32;
+    pub fn odfilter_flat_judge(
+        filter: *const odfilter_handle, judge: *mut odfilter_handle, row: *const c_char, row_length: usize,
+        answer: *mut odfilter_answer) -> u32;
+    pub fn odfilter_flat_judge_next(
+        judge: *mut odfilter_handle, row: *const c_char, row_length: usize, answer: *mut odfilter_answer) -> u32;
+    pub fn odfilter_flat_filter_lines(
+        filter: *const odfilter_handle, judge: *mut odfilter_handle, rows: *const c_char, rows_length: usize,
+        kept: *mut c_char, kept_length: usize, answer: *mut odfilter_answer) -> u32;
+    pub fn odfilter_flat_path(
+        judge: *const odfilter_handle, path: *mut c_char, path_length: usize, answer: *mut odfilter_answer) -> u32;
+    pub fn odfilter_flat_version(text: *mut c_char, text_length: usize, answer: *mut odfilter_answer) -> u32;
+    pub fn odfilter_flat_status_name(
+        status: u32, text: *mut c_char, text_length: usize, answer: *mut odfilter_answer) -> u32;
+    pub fn odfilter_flat_fault_name(
+        status: u32, fault: u32, text: *mut c_char, text_length: usize, answer: *mut odfilter_answer) -> u32;
+    pub fn odfilter_flat_fault_text(
+        r#type: *const odfilter_handle, status: u32, text: *const c_char, text_length: usize, sentence: *mut c_char,
+        sentence_length: usize, fault: *const odfilter_answer, answer: *mut odfilter_answer) -> u32;
 }

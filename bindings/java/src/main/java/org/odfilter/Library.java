@@ -3,7 +3,6 @@ package org.odfilter;
 import com.sun.jna.Native;
 import com.sun.jna.NativeLibrary;
 import com.sun.jna.Pointer;
-import com.sun.jna.Structure;
 
 /** The calls of the C library, by JNA. Made by bindings/make from include/odfilter.json. */
 final class Library {
@@ -14,20 +13,14 @@ final class Library {
     private Library() {
     }
 
-    /** Bytes or a buffer: a structure by value. */
-    @Structure.FieldOrder({"at", "length"})
-    public static class Bytes extends Structure implements Structure.ByValue {
-        public Pointer at;
-        public long length;
-
-        Bytes() {
-            setAutoSynch(false);
-            write();
-        }
+    /** Bytes or a buffer: an address and a length. */
+    static final class Bytes {
+        private Pointer at;
+        private long length;
 
         void set(Pointer at, long length) {
-            getPointer().setPointer(0, at);
-            getPointer().setLong(Long.BYTES, length);
+            this.at = at;
+            this.length = length;
         }
     }
 
@@ -68,19 +61,51 @@ final class Library {
         to.setLong(88, from.valueStop);
     }
 
-    static native int odfilter_read_schema(Bytes document, Bytes names, Pointer schema, Pointer answer);
+    static native int odfilter_flat_read_schema(
+            Pointer document, long documentLength, Pointer names, long namesLength, Pointer schema, Pointer answer);
 
-    static native int odfilter_find_type(Pointer schema, Bytes name, Pointer type);
+    static int odfilter_read_schema(Bytes document, Bytes names, Pointer schema, Pointer answer) {
+        return odfilter_flat_read_schema(document.at, document.length, names.at, names.length, schema, answer);
+    }
 
-    static native int odfilter_check(Pointer type, Bytes text, Pointer filter, Pointer answer);
+    static native int odfilter_flat_find_type(Pointer schema, Pointer name, long nameLength, Pointer type);
 
-    static native int odfilter_check_query(Pointer type, Bytes query, Pointer filter, Pointer answer);
+    static int odfilter_find_type(Pointer schema, Bytes name, Pointer type) {
+        return odfilter_flat_find_type(schema, name.at, name.length, type);
+    }
 
-    static native int odfilter_check_url(Pointer type, Bytes query, Bytes text, Pointer filter, Pointer answer);
+    static native int odfilter_flat_check(Pointer type, Pointer text, long textLength, Pointer filter, Pointer answer);
 
-    static native int odfilter_canonical(Pointer filter, Bytes text, Pointer answer);
+    static int odfilter_check(Pointer type, Bytes text, Pointer filter, Pointer answer) {
+        return odfilter_flat_check(type, text.at, text.length, filter, answer);
+    }
 
-    static native int odfilter_explain(Pointer filter, Bytes text, Pointer answer);
+    static native int odfilter_flat_check_query(
+            Pointer type, Pointer query, long queryLength, Pointer filter, Pointer answer);
+
+    static int odfilter_check_query(Pointer type, Bytes query, Pointer filter, Pointer answer) {
+        return odfilter_flat_check_query(type, query.at, query.length, filter, answer);
+    }
+
+    static native int odfilter_flat_check_url(
+            Pointer type, Pointer query, long queryLength, Pointer text, long textLength, Pointer filter,
+            Pointer answer);
+
+    static int odfilter_check_url(Pointer type, Bytes query, Bytes text, Pointer filter, Pointer answer) {
+        return odfilter_flat_check_url(type, query.at, query.length, text.at, text.length, filter, answer);
+    }
+
+    static native int odfilter_flat_canonical(Pointer filter, Pointer text, long textLength, Pointer answer);
+
+    static int odfilter_canonical(Pointer filter, Bytes text, Pointer answer) {
+        return odfilter_flat_canonical(filter, text.at, text.length, answer);
+    }
+
+    static native int odfilter_flat_explain(Pointer filter, Pointer text, long textLength, Pointer answer);
+
+    static int odfilter_explain(Pointer filter, Bytes text, Pointer answer) {
+        return odfilter_flat_explain(filter, text.at, text.length, answer);
+    }
 
     static native int odfilter_needs_moment(Pointer filter, Pointer answer);
 
@@ -88,34 +113,84 @@ final class Library {
 
     static native int odfilter_lambda_depth(Pointer filter, Pointer answer);
 
-    static native int odfilter_property_paths(Pointer filter, Bytes paths, Pointer answer);
+    static native int odfilter_flat_property_paths(Pointer filter, Pointer paths, long pathsLength, Pointer answer);
 
-    static native int odfilter_sql(Pointer filter, int form, Bytes how, Bytes text, Pointer answer);
+    static int odfilter_property_paths(Pointer filter, Bytes paths, Pointer answer) {
+        return odfilter_flat_property_paths(filter, paths.at, paths.length, answer);
+    }
+
+    static native int odfilter_flat_sql(
+            Pointer filter, int form, Pointer how, long howLength, Pointer text, long textLength, Pointer answer);
+
+    static int odfilter_sql(Pointer filter, int form, Bytes how, Bytes text, Pointer answer) {
+        return odfilter_flat_sql(filter, form, how.at, how.length, text.at, text.length, answer);
+    }
 
     static native int odfilter_new_judge(Pointer judge);
 
     static native int odfilter_new_judge_of(Pointer filter, Pointer judge);
 
-    static native int odfilter_set_moment(Pointer judge, Bytes moment);
+    static native int odfilter_flat_set_moment(Pointer judge, Pointer moment, long momentLength);
+
+    static int odfilter_set_moment(Pointer judge, Bytes moment) {
+        return odfilter_flat_set_moment(judge, moment.at, moment.length);
+    }
 
     static native int odfilter_set_bound(Pointer judge, long most);
 
-    static native int odfilter_judge(Pointer filter, Pointer judge, Bytes row, Pointer answer);
+    static native int odfilter_flat_judge(Pointer filter, Pointer judge, Pointer row, long rowLength, Pointer answer);
 
-    static native int odfilter_judge_next(Pointer judge, Bytes row, Pointer answer);
+    static int odfilter_judge(Pointer filter, Pointer judge, Bytes row, Pointer answer) {
+        return odfilter_flat_judge(filter, judge, row.at, row.length, answer);
+    }
 
-    static native int odfilter_filter_lines(Pointer filter, Pointer judge, Bytes rows, Bytes kept, Pointer answer);
+    static native int odfilter_flat_judge_next(Pointer judge, Pointer row, long rowLength, Pointer answer);
 
-    static native int odfilter_path(Pointer judge, Bytes path, Pointer answer);
+    static int odfilter_judge_next(Pointer judge, Bytes row, Pointer answer) {
+        return odfilter_flat_judge_next(judge, row.at, row.length, answer);
+    }
+
+    static native int odfilter_flat_filter_lines(
+            Pointer filter, Pointer judge, Pointer rows, long rowsLength, Pointer kept, long keptLength,
+            Pointer answer);
+
+    static int odfilter_filter_lines(Pointer filter, Pointer judge, Bytes rows, Bytes kept, Pointer answer) {
+        return odfilter_flat_filter_lines(filter, judge, rows.at, rows.length, kept.at, kept.length, answer);
+    }
+
+    static native int odfilter_flat_path(Pointer judge, Pointer path, long pathLength, Pointer answer);
+
+    static int odfilter_path(Pointer judge, Bytes path, Pointer answer) {
+        return odfilter_flat_path(judge, path.at, path.length, answer);
+    }
 
     static native int odfilter_free(Pointer handle);
 
-    static native int odfilter_version(Bytes text, Pointer answer);
+    static native int odfilter_flat_version(Pointer text, long textLength, Pointer answer);
 
-    static native int odfilter_status_name(int status, Bytes text, Pointer answer);
+    static int odfilter_version(Bytes text, Pointer answer) {
+        return odfilter_flat_version(text.at, text.length, answer);
+    }
 
-    static native int odfilter_fault_name(int status, int fault, Bytes text, Pointer answer);
+    static native int odfilter_flat_status_name(int status, Pointer text, long textLength, Pointer answer);
 
-    static native int odfilter_fault_text(
-            Pointer type, int status, Bytes text, Bytes sentence, Pointer fault, Pointer answer);
+    static int odfilter_status_name(int status, Bytes text, Pointer answer) {
+        return odfilter_flat_status_name(status, text.at, text.length, answer);
+    }
+
+    static native int odfilter_flat_fault_name(int status, int fault, Pointer text, long textLength, Pointer answer);
+
+    static int odfilter_fault_name(int status, int fault, Bytes text, Pointer answer) {
+        return odfilter_flat_fault_name(status, fault, text.at, text.length, answer);
+    }
+
+    static native int odfilter_flat_fault_text(
+            Pointer type, int status, Pointer text, long textLength, Pointer sentence, long sentenceLength,
+            Pointer fault, Pointer answer);
+
+    static int odfilter_fault_text(
+            Pointer type, int status, Bytes text, Bytes sentence, Pointer fault, Pointer answer) {
+        return odfilter_flat_fault_text(
+                type, status, text.at, text.length, sentence.at, sentence.length, fault, answer);
+    }
 }
