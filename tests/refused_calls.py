@@ -142,11 +142,11 @@ def says_cut(said, wanted, written):
 
 
 def says_refused(said, wanted):
-    """Whether that is the answer, or says line by line that an allocation failed: a line that is read by its bytes is
-    `unread` then.
+    """Whether that is the answer, or says that an allocation failed, of the check or line by line: a line that is read
+    by its bytes is `unread` then, and `read otherwise` where it is the tree that fails.
     """
-    if said in (wanted, "memory"):
+    if said in (wanted, "memory", "refused memory"):
         return True
-    lines = said.split("\n"), wanted.split("\n")
-    pairs = zip(*lines, strict=False)
-    return len(lines[0]) == len(lines[1]) and all(a in (b, "unread") or "memory" in a for a, b in pairs)
+    found, lines = said.split("\n"), wanted.split("\n")
+    ways = ["unread", "read otherwise"] if found[0] == "memory" else ["unread"]
+    return len(found) == len(lines) and all(a in (b, *ways) or "memory" in a for a, b in zip(found, lines))
