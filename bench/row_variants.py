@@ -40,7 +40,7 @@ def tagged(row, number):
 
 def with_undeclared(row, number):
     """The row with a text and a number after it that no type declares."""
-    return {**row, "Supplier": f"supplier {number % 97}", "Weight": number % 400 / 4}
+    return {**row, "Supplier": f"supplier {number % 97}", "Weight": number % 400 + 0.25}
 
 
 # of each variant, what it is, and a row's text from its JSON and its number
