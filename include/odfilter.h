@@ -319,8 +319,8 @@ uint32_t odfilter_new_judge_of(const odfilter_handle *filter, odfilter_handle **
 uint32_t odfilter_set_moment(odfilter_handle *judge, odfilter_bytes moment);
 
 /* Bounds what a filter may cost on a row: how many times it judges the body of an any() or all(), and how many items of
- * lists after `in` it compares within one. Each row has the whole bound. Without this call there is none, and
- * odfilter_filter_lines goes by none.
+ * lists and members of collections it compares after `in` within one. Each row has the whole bound, and so has each line
+ * of odfilter_filter_lines. Without this call there is none.
  *
  * ODFILTER_OK. ODFILTER_NULL: `judge` is. ODFILTER_OTHER_KIND: it is not a judge. */
 uint32_t odfilter_set_bound(odfilter_handle *judge, uint64_t most);
@@ -346,10 +346,10 @@ uint32_t odfilter_judge_next(odfilter_handle *judge, odfilter_bytes row, odfilte
  * never too small.
  *
  * ODFILTER_OK: `rows` and `kept`, and `length` bytes have been written. ODFILTER_TOO_SMALL: `length` are needed.
- * ODFILTER_JSON_FAULT, ODFILTER_ROW_FAULT, ODFILTER_EVAL_FAULT, ODFILTER_LINE_TOO_LONG: the line `number` is at
- * fault, as by odfilter_judge, and the kept lines before it have been written, `length` bytes, or none where the
- * buffer is smaller than that. ODFILTER_MEMORY, ODFILTER_MOMENT_NEEDED: none was. ODFILTER_NULL: any of the five is.
- * ODFILTER_OTHER_KIND. */
+ * ODFILTER_JSON_FAULT, ODFILTER_ROW_FAULT, ODFILTER_EVAL_FAULT, ODFILTER_TOO_COSTLY, ODFILTER_LINE_TOO_LONG: the line
+ * `number` is at fault, as by odfilter_judge, and the kept lines before it have been written, `length` bytes, or none
+ * where the buffer is smaller than that. ODFILTER_MEMORY, ODFILTER_MOMENT_NEEDED: none was. ODFILTER_NULL: any of the
+ * five is. ODFILTER_OTHER_KIND. */
 uint32_t odfilter_filter_lines(const odfilter_handle *filter, odfilter_handle *judge, odfilter_bytes rows,
                                odfilter_buffer kept, odfilter_answer *answer);
 

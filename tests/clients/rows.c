@@ -276,6 +276,25 @@ static int next_comes_to(odfilter_handle *bounded, uint64_t most, uint32_t statu
     return is_so;
 }
 
+/* lines by a judge with a bound: each has the whole bound, and the first above it is at fault */
+static void lines_within(const odfilter_handle *filter, odfilter_handle *bounded, uint64_t most, uint32_t status)
+{
+    odfilter_bytes rows = bytes_of(TAGS_ROW "\n\n" TAGS_ROW "\n");
+    odfilter_buffer room = {block(rows.length + 1), rows.length + 1};
+    odfilter_answer answer = unwritten(), wanted = {0};
+    if (status == ODFILTER_OK) {
+        wanted.rows = wanted.kept = 2;
+        wanted.length = 2 * strlen(TAGS_ROW "\n");
+    } else {
+        wanted.number = 1;
+    }
+    check("lines, and a bound", odfilter_set_bound(bounded, most) == ODFILTER_OK);
+    check("lines within a bound", odfilter_filter_lines(filter, bounded, rows, room, &answer) == status);
+    check("what is reported of them", is_answer(answer, wanted) && is_path(bounded, ""));
+    drop(rows);
+    free(room.at);
+}
+
 static void bounds(void)
 {
     odfilter_handle *tags_schema = schema_of(TAGS_DOCUMENT), *tags = type_of(tags_schema, "Mini.Item");
@@ -292,6 +311,9 @@ static void bounds(void)
     check("no lambda operator", comes_to(plain, bounded, 0, ODFILTER_OK));
     check("no row", judged(filter, bounded, "{}", &returned) == ODFILTER_ROW_FAULT);
     check("too costly after a row at fault", comes_to(filter, bounded, 0, ODFILTER_TOO_COSTLY));
+    lines_within(filter, bounded, 2, ODFILTER_TOO_COSTLY);
+    lines_within(filter, bounded, 3, ODFILTER_OK);
+    lines_within(plain, bounded, 0, ODFILTER_OK);
     check("no bound of a judge of the filter", is_next_kept(own, TAGS_ROW));
     check("a bound of none of it", next_comes_to(own, 0, ODFILTER_TOO_COSTLY));
     check("a bound of one less of it", next_comes_to(own, 2, ODFILTER_TOO_COSTLY));

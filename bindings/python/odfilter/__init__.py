@@ -250,8 +250,8 @@ class Filter(_Held):
     def judge(self, now: Optional[str] = None, bound: Optional[int] = None) -> Judge:
         """A judge by this filter; `now` is the moment that now() stands for. Raises NotAMoment.
 
-        `bound` is how much the filter may cost on a row of `verdict`: how many times it judges the body of an any() or
-        all(), and how many items of lists after `in` it compares within one.
+        `bound` is how much the filter may cost on a row: how many times it judges the body of an any() or all(), and
+        how many items of lists and members of collections it compares after `in` within one.
         """
         return Judge(self, now, bound)
 
@@ -281,24 +281,24 @@ class Judge(_Held):
         self,
         rows: FileOrPath,
         out: FileOrPath,
-        on_fault: Optional[Callable[[RowFault, bytes], Any]] = None,
+        on_fault: Optional[Callable[[Union[RowFault, TooCostly], bytes], Any]] = None,
         progress: Optional[Callable[[Tally], Any]] = None,
     ) -> Tally:
         """Writes the lines of a file on which the filter is true to another; each is a path or a binary file.
 
         Both being one file is a ValueError, and an output that takes less than it is given an OSError.
-        The first line at fault raises RowFault, after what is kept before it has been written. With `on_fault` the run
-        goes on after that line: it calls `on_fault(fault, line)`, where `fault.line` counts the lines of the file from
-        1, and a line of more than 1,048,576 bytes is cut to one more than these. `progress(tally)` is called after each
-        piece of about 1 MiB. What either raises ends the run.
+        The first line at fault raises RowFault, or TooCostly, after what is kept before it has been written. With
+        `on_fault` the run goes on after that line: it calls `on_fault(fault, line)`, where `fault.line` counts the
+        lines of the file from 1, and a line of more than 1,048,576 bytes is cut to one more than these.
+        `progress(tally)` is called after each piece of about 1 MiB. What either raises ends the run.
         """
         return filter_file(self, rows, out, on_fault, progress)
 
     def filter_lines(self, rows: BytesOrText) -> Kept:
         """Of rows, one JSON object a line, those on which the filter is true, unchanged and each with a line feed.
 
-        Blank lines are passed over. The first line at fault raises RowFault, which has what is kept before it; also
-        raises MomentNeeded.
+        Blank lines are passed over. The first line at fault raises RowFault, or TooCostly, which has what is kept
+        before it; also raises MomentNeeded.
         """
         owned, borrowed = self._open(), _borrowed(rows, "rows")
         room, kept = _buffer_of(borrowed.length + 1)
@@ -329,7 +329,7 @@ class Judge(_Held):
         if status == MOMENT_NEEDED:
             return library._worded(MomentNeeded(), status, answer, "")
         if status == TOO_COSTLY:
-            return TooCostly()
+            return TooCostly(line, kept)
         path = library._text("path", owned.handle) if status == ROW_FAULT else ""
         fault = RowFault(library._fault(status, answer.fault), path, line, kept)
         return library._worded(fault, status, answer, path)

@@ -133,7 +133,11 @@ class MomentNeeded(Error):
 
 
 class TooCostly(Error):
-    """A filter costs more on a row than the bound of its judge allows."""
+    """A filter costs more on a row than the bound of its judge allows; `line` and `kept` are as of RowFault."""
+
+    def __init__(self, line: int = 1, kept: bytes = b"") -> None:
+        super().__init__(line, kept)
+        self.line, self.kept = line, kept
 
     def __str__(self) -> str:
         return "the filter costs more on the row than the judge's bound"

@@ -8,7 +8,7 @@ import os
 import stat
 from typing import TYPE_CHECKING, Any, BinaryIO, Callable, Iterator, NamedTuple, Optional, Union
 
-from ._errors import RowFault
+from ._errors import RowFault, TooCostly
 
 if TYPE_CHECKING:
     from . import Judge
@@ -61,7 +61,9 @@ def pieces_of(blocks: Iterator[bytes]) -> Iterator[bytes]:
 class Run:
     """A run over a file: where it writes, and what it has done."""
 
-    def __init__(self, judge: Judge, out: BinaryIO, on_fault: Optional[Callable[[RowFault, bytes], Any]]) -> None:
+    def __init__(
+        self, judge: Judge, out: BinaryIO, on_fault: Optional[Callable[[Union[RowFault, TooCostly], bytes], Any]]
+    ) -> None:
         self.judge, self.out, self.on_fault = judge, out, on_fault
         self.rows = self.kept = self.faults = self.size = self.lines = 0
         self.step = BLOCK
@@ -81,7 +83,7 @@ class Run:
         """Judges some lines, up to the first at fault, and returns where the next ones begin."""
         try:
             kept = self.judge.filter_lines(memoryview(piece)[start:stop])
-        except RowFault as fault:
+        except (RowFault, TooCostly) as fault:
             return self.after_fault(fault, piece, start)
         self.write(kept.text)
         self.rows, self.kept = self.rows + kept.rows, self.kept + kept.kept
@@ -98,7 +100,7 @@ class Run:
         if taken is not None and taken < len(kept):
             raise OSError(errno.EIO, f"the output took {taken} bytes of {len(kept)}")
 
-    def after_fault(self, fault: RowFault, piece: bytes, start: int) -> int:
+    def after_fault(self, fault: Union[RowFault, TooCostly], piece: bytes, start: int) -> int:
         """Writes what is kept before a fault, reports that, and returns where the line after it begins."""
         begin = start
         for _ in range(fault.line - 1):
@@ -110,7 +112,7 @@ class Run:
         self.kept, self.faults = self.kept + fault.kept.count(b"\n"), self.faults + 1
         self.lines += fault.line
         fault.line, fault.kept = self.lines, b""
-        fault.args = fault.name, fault.path, fault.line, fault.kept
+        fault.args = (*fault.args[:-2], fault.line, fault.kept)
         self.step = FEW
         if self.on_fault is None:
             self.out.flush()
@@ -139,7 +141,7 @@ def filter_file(
     judge: Judge,
     rows: FileOrPath,
     out: FileOrPath,
-    on_fault: Optional[Callable[[RowFault, bytes], Any]],
+    on_fault: Optional[Callable[[Union[RowFault, TooCostly], bytes], Any]],
     progress: Optional[Callable[[Tally], Any]],
 ) -> Tally:
     if are_one(rows, out):

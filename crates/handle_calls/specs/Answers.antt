@@ -100,7 +100,7 @@ fault_status (Fault.Json line) = 21
 fault_status (Fault.Row line fault) = 22
 fault_status (Fault.Evaluation line fault) = 23
 fault_status (Fault.LineTooLong line) = 24
-fault_status Fault.TooCostly = 25
+fault_status (Fault.TooCostly line) = 25
 fault_status Fault.Unsayable = 26
 fault_status Fault.TooDeep = 27
 fault_status Fault.UnknownColumn = 28
@@ -130,7 +130,7 @@ fault_answer (Fault.Row line fault) = record empty_answer
     { fault = row_number fault; number = line; length = length (path_bytes fault) }
 fault_answer (Fault.Evaluation line fault) = record empty_answer { fault = evaluation_number fault; number = line }
 fault_answer (Fault.LineTooLong line) = record empty_answer { number = line }
-fault_answer Fault.TooCostly = empty_answer
+fault_answer (Fault.TooCostly line) = record empty_answer { number = line }
 fault_answer Fault.Unsayable = empty_answer
 fault_answer Fault.TooDeep = empty_answer
 fault_answer Fault.UnknownColumn = empty_answer

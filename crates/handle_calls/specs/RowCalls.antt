@@ -12,9 +12,10 @@ use Rattle.odata_checked_filter.specs.Calls.{UsesNow}
 use Rattle.odata_checked_filter.specs.Filter.{Filter, tree_of_filter}
 use Rattle.odata_eval.specs.declared.verdict.Verdict.{Verdict}
 use Rattle.row_judges.specs.RowAnswer.{HasVerdict}
-use Rattle.row_judges.specs.RowCosts.{RowCostIs}
+use Rattle.row_judges.specs.RowCosts.{RowCostIs, rows_within}
 use Rattle.row_judges.specs.RowJudgment.{JudgesRow, rows_of}
 use Rattle.row_judges.specs.declared.bad_row.BadRow.{BadRow}
+use Rattle.row_judges.specs.declared.bounded_line_judge.BoundedFault.{BoundedFault}
 use Rattle.handle_calls.specs.Answers.{path_bytes}
 use Rattle.handle_calls.specs.Kinds.{IsFilterKind}
 use Rattle.handle_calls.specs.declared.call_fault.Fault.{Fault}
@@ -77,7 +78,7 @@ IsOutcomeAt filter now bound row (Err (Fault.Row line fault)) =
     (line ≡ 0) × JudgesRow filter now row (Judgment.Fault (BadRow.NoEntity fault))
 IsOutcomeAt filter now bound row (Err (Fault.Evaluation line fault)) =
     (line ≡ 0) × (JudgesRow filter now row (Judgment.Fault (BadRow.NoValue fault)) × IsWithin bound filter now row)
-IsOutcomeAt filter now bound row (Err Fault.TooCostly) = IsAbove bound filter now row
+IsOutcomeAt filter now bound row (Err (Fault.TooCostly line)) = (line ≡ 0) × IsAbove bound filter now row
 IsOutcomeAt filter now bound row (Err Fault.Memory) = Unit {0}
 IsOutcomeAt filter now bound row (Err fault) = ⊥
 
@@ -95,18 +96,30 @@ stop_of (Fault.Evaluation line fault) = Some (RunStop.Fault line (BadRow.NoValue
 stop_of (Fault.LineTooLong line) = Some (RunStop.TooLong line)
 stop_of fault = None
 
--- the text of the rows that the filter keeps at a moment, and how many; or of those before the first line at fault; no
--- text when out of memory
-abbrev pub IsRunAt : Filter → MomentParts → List ℕ → Result Tally Fault → List ℕ → Type 0
-IsRunAt filter now rows (Ok tally) text = Filters (rows_of filter now rows) text tally
-IsRunAt filter now rows (Err Fault.Memory) text = text ≡ []
-IsRunAt filter now rows (Err fault) text = IsSomeAnd (stop_of fault) (Stops (rows_of filter now rows) text)
+-- so it is within a bound, by which a line may be too costly
+abbrev pub stop_within : Fault → Option (RunStop BoundedFault)
+stop_within (Fault.Json line) = Some (RunStop.Fault line (BoundedFault.Row BadRow.NotJson))
+stop_within (Fault.Row line fault) = Some (RunStop.Fault line (BoundedFault.Row (BadRow.NoEntity fault)))
+stop_within (Fault.Evaluation line fault) = Some (RunStop.Fault line (BoundedFault.Row (BadRow.NoValue fault)))
+stop_within (Fault.TooCostly line) = Some (RunStop.Fault line BoundedFault.TooCostly)
+stop_within (Fault.LineTooLong line) = Some (RunStop.TooLong line)
+stop_within fault = None
+
+-- the text of the rows that the filter keeps at a moment, each within the bound if there is one, and how many; or of
+-- those before the first line at fault; no text when out of memory
+abbrev pub IsRunAt : Filter → MomentParts → Option ℕ → List ℕ → Result Tally Fault → List ℕ → Type 0
+IsRunAt filter now bound rows (Err Fault.Memory) text = text ≡ []
+IsRunAt filter now None rows (Ok tally) text = Filters (rows_of filter now rows) text tally
+IsRunAt filter now None rows (Err fault) text = IsSomeAnd (stop_of fault) (Stops (rows_of filter now rows) text)
+IsRunAt filter now (Some most) rows (Ok tally) text = Filters (rows_within filter now most rows) text tally
+IsRunAt filter now (Some most) rows (Err fault) text =
+    IsSomeAnd (stop_within fault) (Stops (rows_within filter now most rows) text)
 
 -- that at the judge's moment; none where it lacks one
-abbrev pub IsRunOver : Filter → Option MomentParts → List ℕ → Result Tally Fault → List ℕ → Type 0
-IsRunOver filter given rows (Err Fault.MomentNeeded) text = (text ≡ []) × LacksMoment filter given
-IsRunOver filter given rows outcome text =
-    (now : MomentParts) × (IsMomentFor filter given now × IsRunAt filter now rows outcome text)
+abbrev pub IsRunOver : Filter → Option MomentParts → Option ℕ → List ℕ → Result Tally Fault → List ℕ → Type 0
+IsRunOver filter given bound rows (Err Fault.MomentNeeded) text = (text ≡ []) × LacksMoment filter given
+IsRunOver filter given bound rows outcome text =
+    (now : MomentParts) × (IsMomentFor filter given now × IsRunAt filter now bound rows outcome text)
 
 -- what the judge stores for its path: a row's fault; where no row was judged, what it had
 abbrev pub last_after : Option RowFault → Fault → Option RowFault

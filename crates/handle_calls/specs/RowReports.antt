@@ -122,7 +122,7 @@ pub record FiltersBy
     : Type 0 where
   pub outcome : Result Tally Fault
   pub text : List ℕ
-  pub right : IsRunOver filter old.moment rows outcome text
+  pub right : IsRunOver filter old.moment old.bound rows outcome text
   pub keeps : Keeps old new (last_of_run old.last outcome)
   pub reports : ReportsRun outcome text kept kept' answer status
 

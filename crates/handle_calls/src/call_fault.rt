@@ -33,7 +33,7 @@ pub(crate) enum Fault {
     Row { line: u64, fault: RowFault },
     Evaluation { line: u64, fault: EvalFault },
     LineTooLong { line: u64 },
-    TooCostly,
+    TooCostly { line: u64 },
     /// A text that no parameter of SQL holds.
     Unsayable,
     /// More than the engine's parser stores.
@@ -182,7 +182,7 @@ impl Fault {
             Fault::Row { .. } => 22,
             Fault::Evaluation { .. } => 23,
             Fault::LineTooLong { .. } => 24,
-            Fault::TooCostly => 25,
+            Fault::TooCostly { .. } => 25,
             Fault::Unsayable => 26,
             Fault::TooDeep => 27,
             Fault::UnknownColumn => 28,
@@ -201,6 +201,7 @@ impl Fault {
             Fault::Refused(refusal) => refusal_answer(refusal),
             Fault::Json { line } => numbered(0, *line),
             Fault::LineTooLong { line } => numbered(0, *line),
+            Fault::TooCostly { line } => numbered(0, *line),
             Fault::Row { line, fault } => row_answer(*line, fault),
             Fault::Evaluation { line, fault } => numbered(u32::from(fault.number()), *line),
             _ => Answer::empty(),

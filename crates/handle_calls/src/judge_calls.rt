@@ -160,7 +160,7 @@ fn bounded_outcome(reported: Result<Option<Verdict>, BadRow>) -> Result<Verdict,
     match reported {
         Ok(found) => match found {
             Some(verdict) => Ok(verdict),
-            None => Err(Fault::TooCostly),
+            None => Err(Fault::TooCostly { line: 0 }),
         },
         Err(why) => Err(row_fault(why)),
     }

@@ -1,5 +1,6 @@
 //! Rows in memory, a line each, and those that a filter keeps.
-ghost use Rattle.handle_calls.specs.RowCalls.{IsRunAt, IsRunOver};
+ghost use Rattle.std.specs.Prelude.{◌≡◌, None, Some};
+ghost use Rattle.handle_calls.specs.RowCalls.{IsRunAt, IsRunOver, stop_within};
 ghost use Rattle.handle_calls.specs.RowReports.{FiltersBy, FiltersLines, ReportsStop, ReportsTally};
 
 use crate::answer::Answer;
@@ -9,8 +10,10 @@ use crate::caller_buffer::write_text;
 use crate::handle::{FilterHandle, Handle, JudgeHandle};
 use crate::judge_calls::{keep_fault, moment_for};
 use edm_values::Moment;
-use odata_filter::{RunFault, Tally, filter_slice};
+use line_filter::RunStop;
+use odata_filter::{BadRow, BoundedJudge, RunFault, Tally, filter_slice};
 use odata_typing::Checked;
+use row_judges::BoundedFault;
 use std::alloc::Global;
 
 /// The result of a run over rows, and the lines that it kept.
@@ -21,8 +24,8 @@ struct Run {
 }
 
 /// A run over rows at a moment. In memory nothing can fail but rows and allocations.
-fn run_at(alloc: Global, checked: &Checked<'_>, now: &Moment, rows: &[u8]) -> Run
-    ensures { IsRunAt checked.now now.now rows.now result.outcome result.kept.items }
+fn run_plain(alloc: Global, checked: &Checked<'_>, now: &Moment, rows: &[u8]) -> Run
+    ensures { IsRunAt checked.now now.now None rows.now result.outcome result.kept.items }
 {
     let mut kept = Vec::new(alloc);
     let outcome = match filter_slice(alloc, checked, now, rows, &mut kept) {
@@ -39,14 +42,61 @@ fn run_at(alloc: Global, checked: &Checked<'_>, now: &Moment, rows: &[u8]) -> Ru
     Run { outcome, kept }
 }
 
-/// A run over rows, at the judge's moment.
+/// The same, each row within a bound on its cost.
+fn run_within(alloc: Global, checked: &Checked<'_>, now: &Moment, most: u64, rows: &[u8]) -> Run
+    ensures { IsRunAt checked.now now.now (Some most) rows.now result.outcome result.kept.items }
+{
+    let mut kept = Vec::new(alloc);
+    let by = BoundedJudge {
+        checked,
+        moment: now,
+        most,
+    };
+    match by.filter_lines(alloc, rows, &mut kept) {
+        Ok(tally) => Run {
+            outcome: Ok(tally),
+            kept,
+        },
+        Err(RunStop::Fault { line, fault }) => Run {
+            outcome: Err(line_fault(line, fault)),
+            kept,
+        },
+        Err(RunStop::TooLong { line }) => Run {
+            outcome: Err(Fault::LineTooLong { line }),
+            kept,
+        },
+        Err(_) => Run {
+            outcome: Err(Fault::Memory),
+            kept: Vec::new(alloc),
+        },
+    }
+}
+
+/// The fault of a line of this number.
+fn line_fault(line: u64, why: BoundedFault) -> Fault
+    ensures { stop_within result ≡ Some (RunStop.Fault line why) }
+{
+    match why {
+        BoundedFault::Row(bad) => match bad {
+            BadRow::NotJson => Fault::Json { line },
+            BadRow::NoEntity(fault) => Fault::Row { line, fault },
+            BadRow::NoValue(fault) => Fault::Evaluation { line, fault },
+        },
+        BoundedFault::TooCostly => Fault::TooCostly { line },
+    }
+}
+
+/// A run over rows, at the judge's moment and within its bound.
 fn run_over(held: &FilterHandle, judge: &JudgeHandle, rows: &[u8]) -> Run
-    ensures { IsRunOver held.now judge.now.moment rows.now result.outcome result.kept.items }
+    ensures { IsRunOver held.now judge.now.moment judge.now.bound rows.now result.outcome result.kept.items }
 {
     let alloc = judge.reader.allocator();
     let checked = held.checked();
     match moment_for(&checked, judge.moment) {
-        Ok(now) => run_at(alloc, &checked, &now, rows),
+        Ok(now) => match judge.bound {
+            Some(most) => run_within(alloc, &checked, &now, most, rows),
+            None => run_plain(alloc, &checked, &now, rows),
+        },
         Err(fault) => Run {
             outcome: Err(fault),
             kept: Vec::new(alloc),

@@ -6,6 +6,7 @@ pub mod ItemStops
 pub mod Items
 pub mod Lambdas
 pub mod Members
+pub mod Paths
 pub mod Rests
 pub mod Splits
 pub mod Stops

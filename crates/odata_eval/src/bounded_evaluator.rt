@@ -20,8 +20,9 @@ use odata_checked_filter::Checked;
 use odata_filter_operations::EvalFault;
 use std::alloc::Global;
 
-/// Evaluates the filter on the entity, within a bound on its cost. The bound is on the bodies of lambda operators, and
-/// the items of lists within them, that it evaluates. `None` if the filter costs more than the bound allows.
+/// Evaluates the filter on the entity, within a bound on its cost. The bound is on the bodies of lambda operators that
+/// it evaluates, and the values that it compares after `in` within them. `None` if the filter costs more than the bound
+/// allows.
 pub fn evaluate_within(
     alloc: Global,
     checked: &Checked<'_>,

@@ -1,8 +1,8 @@
-//! How many bodies of lambda operators, and items of lists within them, a walk may still ask for.
+//! How many bodies of lambda operators, and values compared after `in` within them, a walk may still ask for.
 ghost use Rattle.std.specs.Prelude.{◌≡◌, ◌≢◌};
 ghost use Rattle.odata_meaning.specs.Costs.{item_cost};
 ghost use Rattle.odata_eval.specs.private.ContextModel.{environment_of};
-ghost use Rattle.odata_eval.specs.private.Spending.{IsTaken, datum_as_stop};
+ghost use Rattle.odata_eval.specs.private.Spending.{IsTaken, compared_cost, datum_as_stop};
 
 use super::eval_context::EvalContext;
 use super::stop::EvalStop;
@@ -27,9 +27,9 @@ pub(crate) trait Counting: Copy {
     fn without_bound() -> Self
         ensures { left result ≡ Budget.Unbounded };
 
-    /// Takes one, if one is left.
-    fn take_one(&mut self) -> bool
-        ensures { IsTaken result (left self.old) (left self.new) 1 };
+    /// Takes so many, if so many are left.
+    fn take(&mut self, count: usize) -> bool
+        ensures { IsTaken result (left self.old) (left self.new) count };
 }
 
 /// Nothing is counted: a walk by this is compiled without a budget.
@@ -47,7 +47,7 @@ impl Counting for Unbounded {
     }
 
     #[inline(always)]
-    fn take_one(&mut self) -> bool {
+    fn take(&mut self, _count: usize) -> bool {
         true
     }
 }
@@ -59,14 +59,15 @@ impl Counting for Budget {
         Budget::Unbounded
     }
 
-    fn take_one(&mut self) -> bool {
+    fn take(&mut self, count: usize) -> bool {
         match *self {
             Budget::Unbounded => true,
-            Budget::Left(count) => {
-                if count == 0 {
+            Budget::Left(left) => {
+                let asked = count as u64;
+                if left < asked {
                     return false;
                 }
-                *self = Budget::Left(count - 1);
+                *self = Budget::Left(left - asked);
                 true
             }
         }
@@ -78,7 +79,23 @@ pub(crate) fn take_item<B: Counting>(context: &EvalContext<'_, '_, '_>, budget: 
     ensures { IsTaken result (B.left budget.old) (B.left budget.new) (item_cost (environment_of context.now)) }
 {
     if context.is_within_body() {
-        budget.take_one()
+        budget.take(1)
+    } else {
+        true
+    }
+}
+
+/// Takes one for each of so many members that were compared within a body, if so many are left.
+pub(crate) fn take_compared<B: Counting>(
+    context: &EvalContext<'_, '_, '_>,
+    count: usize,
+    budget: &mut B,
+) -> bool
+    ensures { IsTaken result (B.left budget.old) (B.left budget.new)
+        (compared_cost (environment_of context.now) count) }
+{
+    if context.is_within_body() {
+        budget.take(count)
     } else {
         true
     }

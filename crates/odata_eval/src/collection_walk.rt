@@ -5,13 +5,13 @@ ghost use Rattle.odata_eval.specs.private.Place.{HasKind, PartStands};
 ghost use Rattle.odata_eval.specs.private.Spending.{CountedDatum, SpendsRest, datum_stop};
 ghost use Rattle.odata_eval.specs.private.WalkAnswer.{AnswersDatum};
 
-use super::budget::{Counting, take_item};
+use super::budget::{Counting, take_compared, take_item};
 use super::datum_walk::{likely_stored_at, operand_at};
 use super::eval_context::EvalContext;
 use super::stop::EvalStop;
 use super::walk_operand::{right_of, stop_of};
 use edm_values::Datum;
-use odata_filter_operations::{EvalFault, among, flags_of};
+use odata_filter_operations::{EvalFault, among, datum_of_truth, flags_of};
 use odata_functions::{compare, comparisons_are_decided};
 use odata_signatures::trees_have_one_type;
 use odata_syntax::ComparisonOperator;
@@ -35,22 +35,30 @@ pub(crate) fn flags_at<'e, B: Counting>(
     }
 }
 
-/// What `in` before a path evaluates to.
+/// What `in` before a path evaluates to. The members are counted that were compared.
 #[cycle(evaluate)]
 pub(crate) fn among_at<'e, B: Counting>(
     context: &EvalContext<'e, '_, '_>,
     place: usize,
     left: &Datum<'_>,
-) -> Result<Datum<'e>, EvalFault>
+    budget: &mut B,
+) -> Result<Datum<'e>, EvalStop>
     requires stands { PartStands context.now place }
     requires here { HasKind context.now.list place Kind.InPath }
     requires left { AnswersDatum context.now (place + 1) (Ok left.now) }
-    ensures { AnswersDatum context.now place result }
+    ensures answers { CountedDatum context.now place result }
+    ensures spent { SpendsRest context.now place (B.left budget.old) None (B.left budget.new) (datum_stop result) }
 {
     context.ends_once();
     match operand_at::<B>(context, right_of(context, place)) {
-        Ok(path) => Ok(among(left, &path)),
-        Err(fault) => Err(fault),
+        Ok(path) => {
+            let found = among(left, &path);
+            if !take_compared(context, found.compared, budget) {
+                return Err(EvalStop::TooCostly);
+            }
+            Ok(datum_of_truth(found.truth))
+        }
+        Err(fault) => Err(EvalStop::Fault(fault)),
     }
 }
 

@@ -138,7 +138,7 @@ fn made_at<'e, B: Counting>(
         NodeKind::Count => as_stop(count_of(first)),
         NodeKind::AnyItem => Ok(any_item_of(first)),
         NodeKind::Has => as_stop(flags_at::<B>(context, place, &first)),
-        NodeKind::InPath => as_stop(among_at::<B>(context, place, &first)),
+        NodeKind::InPath => among_at(context, place, &first, budget),
         NodeKind::InList => listed_at(context, place, &first, budget),
         NodeKind::Lambda { quantifier } => lambda_at(context, place, quantifier, first, budget),
         NodeKind::Binary {

@@ -95,7 +95,7 @@ fn members_at<'f, B: Counting>(
 {
     let mut bound = context.copy();
     for at in 0..members.len() {
-        if !budget.take_one() {
+        if !budget.take(1) {
             return Err(EvalStop::TooCostly);
         }
         bound.bind(context, variable, &members[at]);

@@ -1,5 +1,5 @@
 -- What is asked of a collection's members, and of an enumeration's values.
-use Rattle.std.specs.Prelude.{◌≡◌, ◌<◌, ℕ, List, Bool, true, false, Some, slice_get}
+use Rattle.std.specs.Prelude.{◌≡◌, ◌<◌, ◌+◌, ◌⊎◌, ℕ, List, Bool, true, false, Some, length, slice_get}
 use Rattle.edm_values.specs.declared.datum.Datum.{Datum}
 use Rattle.edm_values.specs.declared.datum.Datum.TheVariants as datum
 use Rattle.edm_values.specs.declared.value.Value.{Value}
@@ -56,6 +56,17 @@ pub record FirstEqual (left : Datum) (members : List Value) : Type 0 where
 abbrev pub IsAmong : Datum → List Value → Bool → Type 0
 IsAmong left members true = FirstEqual left members
 IsAmong left members false = (k : ℕ) (found : Value) → slice_get members k ≡ Some found → Differs left found
+
+-- so many of the members are compared with it: those up to the first one that equals it, or all
+abbrev pub AreCompared : Datum → List Value → ℕ → Type 0
+AreCompared left members count =
+    ((first : FirstEqual left members) × (count ≡ first.place + 1))
+    ⊎ (IsAmong left members false × (count ≡ length members))
+
+-- so it is with those of a collection; there are none in null
+abbrev pub AreComparedIn : Datum → Datum → ℕ → Type 0
+AreComparedIn left (datum.List held) count = AreCompared left held.now count
+AreComparedIn left _ count = count ≡ 0
 
 -- null, or a value of an enumeration
 abbrev pub IsOfEnumeration : Datum → Type 0

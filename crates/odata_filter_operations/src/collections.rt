@@ -1,6 +1,6 @@
 //! What `$count`, `any()`, `in` and `has` make of values that are there. A collection is borrowed, and so are its
 //! members.
-ghost use Rattle.std.specs.Prelude.{IsSomeAnd};
+ghost use Rattle.std.specs.Prelude.{◌≡◌, IfSome, IsSomeAnd, None};
 ghost use Rattle.csdl_schema.specs.ExprType.{ExprType, SingleType, collection};
 ghost use Rattle.csdl_schema.specs.SchemaModel.{Slots};
 ghost use Rattle.odata_functions.specs.DatumVal.{Reading, datum_val};
@@ -9,7 +9,9 @@ ghost use Rattle.odata_filter_operations.specs.HasGives.{HasGives};
 ghost use Rattle.odata_filter_operations.specs.LambdaGives.{InGives};
 ghost use Rattle.odata_filter_operations.specs.Outcome.{gives};
 ghost use Rattle.odata_filter_operations.specs.DatumView.{answer_outcome, reading_at};
-ghost use Rattle.odata_filter_operations.specs.Collections.{HasMembers, IsAmong, IsOfEnumeration, MayBeAmong, MayBeMember};
+ghost use Rattle.odata_filter_operations.specs.Collections.{AreCompared, AreComparedIn, HasMembers, IsAmong};
+ghost use Rattle.odata_filter_operations.specs.Collections.{IsOfEnumeration, MayBeAmong, MayBeMember};
+ghost use Rattle.odata_filter_operations.specs.TruthGives.{truth_val};
 
 use super::eval_fault::EvalFault;
 use super::stored_values::datum_of;
@@ -44,34 +46,56 @@ pub fn any_item_of<'e>(base: Datum<'_>) -> Datum<'e>
     Datum::Bool(!members.is_empty())
 }
 
-/// Returns whether a value is equal to a member of a collection; null where that is null.
-pub fn among<'e>(left: &Datum<'_>, path: &Datum<'_>) -> Datum<'e>
+/// What `in` makes of a value and a collection.
+#[derive(Clone, Copy)]
+pub struct ComparedMembers {
+    /// Whether the value is equal to a member; `None` where the collection is null.
+    pub truth: Option<bool>,
+    /// How many members were compared with the value: those up to the first that is equal.
+    pub compared: usize,
+}
+
+/// Returns whether a value is equal to a member of a collection. It also returns how many members were compared. Over
+/// null there is no truth value and no member.
+pub fn among(left: &Datum<'_>, path: &Datum<'_>) -> ComparedMembers
     requires { (slots : Slots) × (type : ExprType) × (member : SingleType)
         × MayBeAmong slots type member left.now path.now }
-    ensures { (slots : Slots) (type : ExprType) (member : SingleType) (s : Reading)
+    ensures truth { (slots : Slots) (type : ExprType) (member : SingleType)
         → MayBeAmong slots type member left.now path.now
         → InGives (datum_val (reading_at slots type) left.now)
-        (datum_val (reading_at slots (collection member)) path.now) (gives (datum_val s result)) }
+        (datum_val (reading_at slots (collection member)) path.now) (gives (truth_val result.truth)) }
+    ensures compared { AreComparedIn left.now path.now result.compared }
 {
     match path {
-        Datum::List(members) => Datum::Bool(is_among(left, members)),
-        _ => Datum::Null,
+        Datum::List(members) => among_members(left, members),
+        _ => ComparedMembers {
+            truth: None,
+            compared: 0,
+        },
     }
 }
 
-/// Whether a value is equal to one of the members.
-fn is_among(left: &Datum<'_>, members: &[Value]) -> bool
+/// The same, over the members of a collection.
+fn among_members(left: &Datum<'_>, members: &[Value]) -> ComparedMembers
     requires { (slots : Slots) × (type : ExprType) × (member : SingleType)
         × MayBeMember slots type member left.now members.now }
-    ensures { IsAmong left.now members.now result }
+    ensures truth { IfSome result.truth (IsAmong left.now members.now) }
+    ensures some { ¬ (result.truth ≡ None) }
+    ensures compared { AreCompared left.now members.now result.compared }
 {
     comparisons_are_decided();
-    for member in members {
-        if compare(ComparisonOperator::Eq, left, &datum_of(member)) {
-            return true;
+    for at in 0..members.len() {
+        if compare(ComparisonOperator::Eq, left, &datum_of(&members[at])) {
+            return ComparedMembers {
+                truth: Some(true),
+                compared: at + 1,
+            };
         }
     }
-    false
+    ComparedMembers {
+        truth: Some(false),
+        compared: members.len(),
+    }
 }
 
 /// Returns whether an enumeration's value has every bit of the other; null where one is null.

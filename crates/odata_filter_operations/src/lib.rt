@@ -18,7 +18,7 @@ mod function_calls;
 mod operators;
 mod stored_values;
 
-pub use collections::{among, any_item_of, count_of, flags_of};
+pub use collections::{ComparedMembers, among, any_item_of, count_of, flags_of};
 pub use eval_fault::EvalFault;
 pub use function_calls::{called_on_one, called_on_three, called_on_two};
 pub use operators::{calculated, compare_kept, compare_numbers, negated};

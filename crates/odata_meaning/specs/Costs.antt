@@ -1,5 +1,6 @@
--- What evaluating an expression costs: how many bodies of lambda operators its meaning asks for, and how many items of
--- lists within such bodies (OData URL Conventions 4.01, sections 5.1.1.1 and 5.1.1.13).
+-- What evaluating an expression costs: how many bodies of lambda operators its meaning asks for, and how many values it
+-- compares after `in` within such bodies, items of lists and members of collections (OData URL Conventions 4.01,
+-- sections 5.1.1.1 and 5.1.1.13).
 use Rattle.std.specs.Prelude.{◌≡◌, ◌+◌, ℕ, [], ◌∷◌, List, true, false}
 use Rattle.edm_values.specs.MomentParts.{MomentParts}
 use Rattle.edm_values.specs.Val.{Val, null, boolean, items, Vals, no_items, item}
@@ -58,28 +59,34 @@ OthersCost All Others (boolean false) n = CostsNothing n
 OthersCost All Others null n = CostsNothing n
 OthersCost quantifier Others v n = Others n
 
--- `any` or `all` over members, from the first one on: one for each body, and what the body itself costs
+-- `any` or `all` over members, from the first one on: so many for each body, and what the body itself costs
 abbrev pub MembersCost :
-    Quantifier → (Val → Outcome → Type 0) → (Val → ℕ → Type 0) → Vals → ℕ → Type 0
-MembersCost quantifier Body BodyCosts no_items = CostsNothing
-MembersCost quantifier Body BodyCosts (item v more) =
-    CostsMore 1
-    (CostAfter (Body v) (BodyCosts v) (OthersCost quantifier (MembersCost quantifier Body BodyCosts more)))
+    ℕ → Quantifier → (Val → Outcome → Type 0) → (Val → ℕ → Type 0) → Vals → ℕ → Type 0
+MembersCost each quantifier Body BodyCosts no_items = CostsNothing
+MembersCost each quantifier Body BodyCosts (item v more) =
+    CostsMore each
+    (CostAfter (Body v) (BodyCosts v) (OthersCost quantifier (MembersCost each quantifier Body BodyCosts more)))
 
--- over null nothing, over a collection its members, with a variable of their type
+-- over null nothing, over a collection one for each body, with a variable of the members' type
 abbrev pub LambdaCosts :
     Quantifier → (ExprType → Type 0) → (ExprType → Val → Outcome → Type 0) → (ExprType → Val → ℕ → Type 0)
     → Val → ℕ → Type 0
 LambdaCosts quantifier BaseTyped Body BodyCosts null n = CostsNothing n
 LambdaCosts quantifier BaseTyped Body BodyCosts (items values) n =
     (type : SingleType) × BaseTyped (collection type)
-    × MembersCost quantifier (Body (single type)) (BodyCosts (single type)) values n
+    × MembersCost 1 quantifier (Body (single type)) (BodyCosts (single type)) values n
 LambdaCosts quantifier BaseTyped Body BodyCosts _ n = ⊥
 
--- an item of a list counts within a body, where there is a range variable
+-- a value that is compared after `in` counts within a body, where there is a range variable
 abbrev pub item_cost : Environment → ℕ
 item_cost [] = 0
 item_cost (innermost ∷ others) = 1
+
+-- over null nothing, over a collection so many for each member that is compared with a value, up to one that is equal
+abbrev pub AmongCosts : ℕ → Val → Val → ℕ → Type 0
+AmongCosts each l null n = CostsNothing n
+AmongCosts each l (items values) n = MembersCost each Any (CompareGives Eq l) (λ v. CostsNothing) values n
+AmongCosts each l _ n = ⊥
 
 -- the costs of a tree, under what its meaning is given under
 abbrev mutual
@@ -102,7 +109,9 @@ abbrev mutual
       (λ l. Costs slots root now entity environment right)
   ShapeCosts slots root now entity environment (in_path left path) =
       CostAfter (Means slots root now entity environment left) (Costs slots root now entity environment left)
-      (λ l. Costs slots root now entity environment path)
+      (λ l.
+      CostAfter (Means slots root now entity environment path) (Costs slots root now entity environment path)
+      (AmongCosts (item_cost environment) l))
   ShapeCosts slots root now entity environment (in_list left listed) =
       CostAfter (Means slots root now entity environment left) (Costs slots root now entity environment left)
       (λ l. ItemsCost slots root now entity environment (Typed slots root (scope_of environment) left) l listed)

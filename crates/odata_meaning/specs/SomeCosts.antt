@@ -2,7 +2,7 @@
 use Rattle.std.specs.Prelude.{ℕ, List, [], ◌∷◌, codes}
 use Rattle.edm_values.specs.MomentParts.{MomentParts}
 use Rattle.edm_values.specs.Val.{Val}
-use Rattle.odata_syntax.specs.Tree.{Shape, Tree, binary, in_list, node, trees_of_list}
+use Rattle.odata_syntax.specs.Tree.{Shape, Tree, binary, in_list, in_path, node, trees_of_list}
 use Rattle.odata_syntax.specs.declared.binary_operator.BinaryOperator.{BinaryOperator}
 use Rattle.odata_syntax.specs.declared.binary_operator.ComparisonOperator.{ComparisonOperator}
 use Rattle.odata_syntax.specs.declared.node.Quantifier.{Quantifier}
@@ -17,6 +17,10 @@ CostsOnTags tags shape cost =
 -- `t in (null,null)`
 abbrev pub is_listed : Tree
 is_listed = node 0 0 (in_list (named (codes "t")) (trees_of_list (null_literal ∷ null_literal ∷ [])))
+
+-- `t in Tags`
+abbrev pub is_member : Tree
+is_member = node 0 0 (in_path (named (codes "t")) (named (codes "Tags")))
 
 -- `1 div 0 eq Tags/any(t:t eq null)`
 abbrev pub fault_first : Shape

@@ -17,7 +17,7 @@ ghost use Rattle.odata_meaning.specs.ComesToMembers.{over_tags, text_and_null};
 ghost use Rattle.odata_meaning.specs.OneByOne.{ComparedOneByOne, ItemsOneByOne, MembersOneByOne};
 ghost use Rattle.odata_meaning.specs.OneOutcome.{ValuesHaveOneOutcome};
 ghost use Rattle.odata_filter_operations.specs.Outcome.{gives, divides_by_zero};
-ghost use Rattle.odata_meaning.specs.SomeCosts.{CostsOnTags, fault_first, is_listed};
+ghost use Rattle.odata_meaning.specs.SomeCosts.{CostsOnTags, fault_first, is_listed, is_member};
 ghost use Rattle.odata_meaning.specs.UnreadMeans.{FlagsAlone, ItemsAlone, OperandsAlone};
 ghost use Rattle.odata_meaning.specs.SameMeaning.{NormalFormsKeepOutcomes, CanonicalTextsKeepOutcomes};
 ghost use Rattle.odata_meaning.specs.private.LawsBelow.{OneEach, Promotes, SomeEach};
@@ -188,13 +188,14 @@ pub fn members_come_to()
 }
 
 /// Worked costs of filters on the same members. `any` asks for the second member's body, `all` for the first one's
-/// alone; an operator in another one for its own each time; a list within a body for its items; nothing is asked for
-/// over null, over none, and after a fault.
+/// alone; an operator in another one for its own each time; a list within a body for its items, and a collection there
+/// for its members, up to the one that is equal; nothing is asked for over null, over none, and after a fault.
 pub fn members_cost()
     ensures some { CostsOnTags text_and_null (over_tags Any is_null) 2 }
     ensures not_all { CostsOnTags text_and_null (over_tags All is_null) 1 }
     ensures within { CostsOnTags text_and_null (over_tags Any all_alike) 5 }
     ensures listed { CostsOnTags text_and_null (over_tags All is_listed) 3 }
+    ensures compared { CostsOnTags text_and_null (over_tags All is_member) 5 }
     ensures of_none { (quantifier : Quantifier) (body : Tree)
         → CostsOnTags (items no_items) (over_tags quantifier body) 0 }
     ensures of_null { (quantifier : Quantifier) (body : Tree) → CostsOnTags null (over_tags quantifier body) 0 }

@@ -1,4 +1,5 @@
 pub mod BlankLines
+pub mod BoundedLines
 pub mod CostsAlone
 pub mod CostsBut
 pub mod ItemsInPlace

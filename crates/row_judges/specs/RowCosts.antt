@@ -6,6 +6,8 @@ use Rattle.edm_values.specs.MomentParts.{MomentParts}
 use Rattle.edm_values.specs.Val.{Val}
 use Rattle.csdl_schema.specs.JsonText.{IsJsonOf}
 use Rattle.csdl_schema.specs.SchemaModel.{slots_of, type_name_at}
+use Rattle.line_filter.specs.Kept.{Items}
+use Rattle.line_filter.specs.LineItems.{lines}
 use Rattle.line_filter.specs.declared.judge.Judgment.{Judgment}
 use Rattle.edm_entities.specs.Fits.{Fits}
 use Rattle.odata_checked_filter.specs.Filter.{Filter, slots_for_filter, tree_of_filter}
@@ -14,6 +16,7 @@ use Rattle.odata_eval.specs.declared.verdict.Verdict.{Verdict}
 use Rattle.row_judges.specs.RowAnswer.{HasVerdict, ReportsRow, is_memory}
 use Rattle.row_judges.specs.RowJudgment.{JudgesRow}
 use Rattle.row_judges.specs.declared.bad_row.BadRow.{BadRow}
+use Rattle.row_judges.specs.declared.bounded_line_judge.BoundedFault.{BoundedFault}
 
 -- what a filter costs on a value of its type
 abbrev pub FilterCosts : Filter → MomentParts → Val → ℕ → Type 0
@@ -47,3 +50,21 @@ ReportsRowWithin filter now row most (Err (BadRow.NoValue fault)) =
     IsFalse (is_memory (BadRow.NoValue fault))
     → JudgesRow filter now row (Judgment.Fault (BadRow.NoValue fault)) × RowCostIs filter now row (λ cost. cost ≤ most)
 ReportsRowWithin filter now row most (Err other) = ReportsRow filter now row (Err other)
+
+-- what is said of a row as a line within a bound: that it is kept, left out, or at fault, where the cost is within the
+-- bound or there is none; that it is too costly, where the cost is above
+abbrev pub JudgesRowWithin : Filter → MomentParts → ℕ → List ℕ → Judgment BoundedFault → Type 0
+JudgesRowWithin filter now most line Judgment.Kept =
+    JudgesRow filter now line Judgment.Kept × RowCostIs filter now line (λ cost. cost ≤ most)
+JudgesRowWithin filter now most line Judgment.LeftOut =
+    JudgesRow filter now line Judgment.LeftOut × RowCostIs filter now line (λ cost. cost ≤ most)
+JudgesRowWithin filter now most line (Judgment.Fault (BoundedFault.Row (BadRow.NoValue fault))) =
+    JudgesRow filter now line (Judgment.Fault (BadRow.NoValue fault)) × RowCostIs filter now line (λ cost. cost ≤ most)
+JudgesRowWithin filter now most line (Judgment.Fault (BoundedFault.Row bad)) =
+    JudgesRow filter now line (Judgment.Fault bad)
+JudgesRowWithin filter now most line (Judgment.Fault BoundedFault.TooCostly) =
+    RowCostIs filter now line (λ cost. most < cost)
+
+-- the lines of the bytes as rows, each judged by the filter within a bound
+abbrev pub rows_within : Filter → MomentParts → ℕ → List ℕ → Items (List ℕ) BoundedFault
+rows_within filter now most bytes = lines (JudgesRowWithin filter now most) bytes

@@ -24,8 +24,8 @@ use odata_typing::Checked;
 use serde_json::Value;
 use std::alloc::Global;
 
-/// Judges rows by a filter, each within a bound on its cost. The bound is on the bodies of lambda operators, and the
-/// items of lists within them, that the filter evaluates on the row.
+/// Judges rows by a filter, each within a bound on its cost. The bound is on the bodies of lambda operators that the
+/// filter evaluates on the row, and the values that it compares after `in` within them.
 #[derive(Drop)]
 pub struct BoundedJudge<'c, 's> {
     pub checked: &'c Checked<'s>,

@@ -13,6 +13,7 @@
 
 mod bad_row;
 mod bounded_judge;
+mod bounded_line_judge;
 mod filter_rows;
 mod item_rows;
 mod laws;
@@ -23,6 +24,7 @@ mod rows_in_place;
 
 pub use bad_row::BadRow;
 pub use bounded_judge::BoundedJudge;
+pub use bounded_line_judge::BoundedFault;
 pub use filter_rows::FilterRows;
 pub use item_rows::verdicts_in_place;
 pub use laws::{rows_are_judged_once, rows_are_reported_once};

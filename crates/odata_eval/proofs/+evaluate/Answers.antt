@@ -5,6 +5,8 @@ use Rattle.std.specs.Prelude.{◌↔◌, IsTrue}
 use Rattle.std.proofs.lemmas.Int.{to_z-of_z}
 use Rattle.std.proofs.lemmas.Option.{slice_get_read}
 use Rattle.edm_values.specs.PlainVal.{plain_val}
+use Rattle.edm_values.specs.Val.{Val}
+use Rattle.csdl_schema.specs.ExprType.{collection}
 use Rattle.csdl_schema.specs.SchemaModel.{slots_of}
 use Rattle.odata_functions.specs.Comparison.{ComparesTrue}
 use Rattle.odata_functions.specs.DatumVal.{datum_val}
@@ -27,13 +29,14 @@ use Rattle.odata_filter_operations.specs.DatumView.{reading_at}
 use Rattle.odata_eval.specs.declared.stop.EvalStop.{EvalStop}
 use Rattle.odata_meaning.specs.Costs.{item_cost}
 use Rattle.odata_eval.specs.private.EvalContext.{EndsOnceHere, TypedHere}
-use Rattle.odata_eval.specs.private.Spending.{CountedDatum, CountedMembers, CountedTruth, SpendsAt, IsTaken, Takes, datum_stop, stopped_by}
+use Rattle.odata_eval.specs.private.Spending.{CountedDatum, CountedMembers, CountedTruth, SpendsAt, IsTaken, Takes, compared_cost, datum_stop, stopped_by}
 use Rattle.odata_eval.specs.declared.budget.Budget.{Budget}
 use Rattle.odata_eval.proofs.spending.Bound.{never_costly}
 use Rattle.odata_eval.proofs.spending.Budgets.{takes_nothing}
 use Rattle.odata_eval.proofs.spending.Free.{called_free, leaf_free, numeric_free}
 use Rattle.odata_eval.proofs.spending.ItemStops.{item_ends, item_pays, item_stops, list_ends, list_is_costly}
 use Rattle.odata_eval.proofs.spending.Lambdas.{members_spend, null_spends}
+use Rattle.odata_eval.proofs.spending.Paths.{path_faults, path_spends}
 use Rattle.odata_eval.proofs.spending.Rests.{free_spends, nothing_more, right_asked, right_compared, right_left_out}
 use Rattle.odata_eval.proofs.spending.Splits.{first_stops}
 use Rattle.odata_eval.proofs.spending.Stops.{after_stop, after_value, as_counted, as_spent, by_stop, datum_faults, fault_nothing, next_spent, truth_faults}
@@ -747,20 +750,37 @@ collection_walk::among_at-operand_at-requires g t c =
     let stands : OperandStands c.args.context.now c.right_of.result = next_part c.args.context.now c.args.place NoOperand IsComparableWithMembers InGives (path_sides c.args.context.now c.args.place c.requires.here) c.right_of.result c.right_of.ensures c.requires.stands in
     search rules
 
-pub collection_walk::among_at-among-requires : goal.collection_walk::among_at-among-requires
-collection_walk::among_at-among-requires g t c =
+pub collection_walk::among_at-among-found-requires : goal.collection_walk::among_at-among-found-requires
+collection_walk::among_at-among-found-requires g t c =
     let slots = slots_of c.args.context.now.row.schema in
     let there = some_sides c.args.context.now c.args.place NoOperand IsComparableWithMembers InGives (path_sides c.args.context.now c.args.place c.requires.here) c.right_of.result c.right_of.ensures c.args.left.now c.requires.left c.in-Ok.path c.in-Ok.ensures c.ends_once.ensures c.requires.stands in
     some_compared slots there.0 there.1 c.args.left.now c.in-Ok.path there.2.0 there.2.1 there.2.2
 
-pub collection_walk::among_at-returns-in-Ok : goal.collection_walk::among_at-returns-in-Ok
-collection_walk::among_at-returns-in-Ok g t c =
+pub collection_walk::among_at-returns-else-not-take_compared-clause-answers : goal.collection_walk::among_at-returns-else-not-take_compared-clause-answers
+collection_walk::among_at-returns-else-not-take_compared-clause-answers g t c =
     let slots = slots_of c.args.context.now.row.schema in
-    sides_answer c.args.context.now c.args.place NoOperand IsComparableWithMembers InGives (path_sides c.args.context.now c.args.place c.requires.here) c.right_of.result c.right_of.ensures c.args.left.now c.requires.left c.in-Ok.path c.in-Ok.ensures c.ends_once.ensures c.among.result
-    (λ s t type alike of_left of_path. path_gives slots s t c.args.left.now c.in-Ok.path (gives (datum_val (reading_at slots type) c.among.result)) alike of_left of_path (λ member may. c.among.ensures slots s member (reading_at slots type) may))
+    sides_answer c.args.context.now c.args.place NoOperand IsComparableWithMembers InGives (path_sides c.args.context.now c.args.place c.requires.here) c.right_of.result c.right_of.ensures c.args.left.now c.requires.left c.in-Ok.path c.in-Ok.ensures c.ends_once.ensures c.datum_of_truth.result
+    (λ s t type alike of_left of_path. path_gives slots s t c.args.left.now c.in-Ok.path (gives (datum_val (reading_at slots type) c.datum_of_truth.result)) alike of_left of_path
+    (λ member may.
+    subst (λ (v : Val). InGives (datum_val (reading_at slots s) c.args.left.now) (datum_val (reading_at slots (collection member)) c.in-Ok.path) (gives v)) (sym (c.datum_of_truth.ensures (reading_at slots type)))
+    (c.among-found.ensures.truth slots s member may)))
 
-pub collection_walk::among_at-returns-in-Err : goal.collection_walk::among_at-returns-in-Err
-collection_walk::among_at-returns-in-Err g t c = next_faults c.args.context.now c.args.place NoOperand IsComparableWithMembers InGives (path_sides c.args.context.now c.args.place c.requires.here) c.right_of.result c.right_of.ensures c.args.left.now c.requires.left c.in-Err.fault c.in-Err.ensures
+pub collection_walk::among_at-returns-else-not-take_compared-clause-spent : goal.collection_walk::among_at-returns-else-not-take_compared-clause-spent
+collection_walk::among_at-returns-else-not-take_compared-clause-spent g t c =
+    path_spends c.args.context.now c.args.place c.requires.here c.ends_once.ensures c.right_of.result c.right_of.ensures c.args.left.now c.requires.left c.in-Ok.path c.in-Ok.ensures c.among-found.result.compared c.among-found.ensures.compared (g.B.Counting.left c.args.budget.now) (g.B.Counting.left c.take_compared.new.budget) None
+    (subst (λ (b : Bool). IsTaken b (g.B.Counting.left c.args.budget.now) (g.B.Counting.left c.take_compared.new.budget) (compared_cost (environment_of c.args.context.now) c.among-found.result.compared)) c.if-not-take_compared.false c.take_compared.ensures)
+
+pub collection_walk::among_at-returns-then-not-take_compared-clause-spent : goal.collection_walk::among_at-returns-then-not-take_compared-clause-spent
+collection_walk::among_at-returns-then-not-take_compared-clause-spent g t c =
+    path_spends c.args.context.now c.args.place c.requires.here c.ends_once.ensures c.right_of.result c.right_of.ensures c.args.left.now c.requires.left c.in-Ok.path c.in-Ok.ensures c.among-found.result.compared c.among-found.ensures.compared (g.B.Counting.left c.args.budget.now) (g.B.Counting.left c.take_compared.new.budget) (Some EvalStop.TooCostly)
+    (subst (λ (b : Bool). IsTaken b (g.B.Counting.left c.args.budget.now) (g.B.Counting.left c.take_compared.new.budget) (compared_cost (environment_of c.args.context.now) c.among-found.result.compared)) c.if-not-take_compared.true c.take_compared.ensures)
+
+pub collection_walk::among_at-returns-in-Err-clause-answers : goal.collection_walk::among_at-returns-in-Err-clause-answers
+collection_walk::among_at-returns-in-Err-clause-answers g t c = next_faults c.args.context.now c.args.place NoOperand IsComparableWithMembers InGives (path_sides c.args.context.now c.args.place c.requires.here) c.right_of.result c.right_of.ensures c.args.left.now c.requires.left c.in-Err.fault c.in-Err.ensures
+
+pub collection_walk::among_at-returns-in-Err-clause-spent : goal.collection_walk::among_at-returns-in-Err-clause-spent
+collection_walk::among_at-returns-in-Err-clause-spent g t c =
+    path_faults c.args.context.now c.args.place c.requires.here c.ends_once.ensures c.right_of.result c.right_of.ensures c.args.left.now c.requires.left c.in-Err.fault c.in-Err.ensures (g.B.Counting.left c.args.budget.now)
 
 pub collection_walk::listed_at-stop_of-own_stop-requires : goal.collection_walk::listed_at-stop_of-own_stop-requires
 collection_walk::listed_at-stop_of-own_stop-requires g t c = part_inside c.args.context.now c.args.place c.requires.stands
@@ -883,9 +903,9 @@ pub lambda_walk::members_at-loop-at-preserved : goal.lambda_walk::members_at-loo
 lambda_walk::members_at-loop-at-preserved g t c = record {
   left = undecided_at c.args.context.now c.args.body.place c.args.body.quantifier c.args.variable.now c.args.members.now c.loop-at.at c.loop-at.invariant.left c.loop-at-test.true c.index-members-at.result (sym c.index-members-at.is) c.in-Ok.truth (subst (λ (s : ContextModel). AnswersTruth s c.args.body.place (Ok c.in-Ok.truth)) c.bind.ensures c.in-Ok.ensures.answers)
       (c.is_undecided.ensures.0 c.if-not-is_undecided.false);
-  paid = body_passes c.args.context.now c.args.body.place c.args.body.quantifier c.args.variable.now c.args.members.now c.loop-at.at (g.B.Counting.left c.args.budget.now) (g.B.Counting.left c.loop-at.budget) c.loop-at.invariant.paid c.loop-at-test.true c.index-members-at.result (sym c.index-members-at.is) (g.B.Counting.left c.take_one.new.self) (subst (λ (b : Bool). IsTaken b (g.B.Counting.left c.loop-at.budget) (g.B.Counting.left c.take_one.new.self) 1) c.if-not-take_one.false c.take_one.ensures) (g.B.Counting.left c.side_at.new.budget) (subst (λ (s : ContextModel). EndsOnceHere s) c.bind.ensures c.ends_once.ensures) c.in-Ok.truth
+  paid = body_passes c.args.context.now c.args.body.place c.args.body.quantifier c.args.variable.now c.args.members.now c.loop-at.at (g.B.Counting.left c.args.budget.now) (g.B.Counting.left c.loop-at.budget) c.loop-at.invariant.paid c.loop-at-test.true c.index-members-at.result (sym c.index-members-at.is) (g.B.Counting.left c.take.new.self) (subst (λ (b : Bool). IsTaken b (g.B.Counting.left c.loop-at.budget) (g.B.Counting.left c.take.new.self) 1) c.if-not-take.false c.take.ensures) (g.B.Counting.left c.side_at.new.budget) (subst (λ (s : ContextModel). EndsOnceHere s) c.bind.ensures c.ends_once.ensures) c.in-Ok.truth
       (subst (λ (s : ContextModel). AnswersTruth s c.args.body.place (Ok c.in-Ok.truth)) c.bind.ensures c.in-Ok.ensures.answers)
-      (subst (λ (s : ContextModel). SpendsAt s c.args.body.place (g.B.Counting.left c.take_one.new.self) (g.B.Counting.left c.side_at.new.budget) None) c.bind.ensures c.in-Ok.ensures.spent) (c.is_undecided.ensures.0 c.if-not-is_undecided.false);
+      (subst (λ (s : ContextModel). SpendsAt s c.args.body.place (g.B.Counting.left c.take.new.self) (g.B.Counting.left c.side_at.new.budget) None) c.bind.ensures c.in-Ok.ensures.spent) (c.is_undecided.ensures.0 c.if-not-is_undecided.false);
   beside = record {
     row_is = ap (λ (s : ContextModel). s.row) c.bind.ensures;
     moment_is = ap (λ (s : ContextModel). s.moment) c.bind.ensures;
@@ -943,9 +963,6 @@ datum_walk::made_at-returns-in-Call-clause-answers g t c = as_counted c.args.con
 
 pub datum_walk::made_at-returns-in-Has-clause-answers : goal.datum_walk::made_at-returns-in-Has-clause-answers
 datum_walk::made_at-returns-in-Has-clause-answers g t c = as_counted c.args.context.now c.args.place c.flags_at.result c.as_stop-in-Has.result c.as_stop-in-Has.ensures c.flags_at.ensures
-
-pub datum_walk::made_at-returns-in-InPath-clause-answers : goal.datum_walk::made_at-returns-in-InPath-clause-answers
-datum_walk::made_at-returns-in-InPath-clause-answers g t c = as_counted c.args.context.now c.args.place c.among_at.result c.as_stop-in-InPath.result c.as_stop-in-InPath.ensures c.among_at.ensures
 
 -- ---- what is taken from the budget
 
@@ -1106,9 +1123,7 @@ datum_walk::made_at-returns-in-Has-clause-spent g t c =
 
 pub datum_walk::made_at-returns-in-InPath-clause-spent : goal.datum_walk::made_at-returns-in-InPath-clause-spent
 datum_walk::made_at-returns-in-InPath-clause-spent g t c =
-    let here : HasKind c.args.context.now.list c.args.place (NodeKind.InPath) = there_found (λ (f : CheckedNode). f.kind ≡ (NodeKind.InPath)) (slice_get c.args.context.now.list.nodes c.args.place) c.node.result.now c.node.ensures c.in-InPath.is in
-    after_value Datum c.args.context.now c.args.place c.args.first c.in-Ok.first (g.B.Counting.left c.args.budget.now) (g.B.Counting.left c.args.budget.now) (datum_stop c.as_stop-in-InPath.result) c.in-Ok.is
-    (nothing_more c.args.context.now c.args.place (NodeKind.InPath) tt here (g.B.Counting.left c.args.budget.now) (datum_stop c.as_stop-in-InPath.result) (as_spent c.among_at.result c.as_stop-in-InPath.result (g.B.Counting.left c.args.budget.now) c.as_stop-in-InPath.ensures))
+    after_value Datum c.args.context.now c.args.place c.args.first c.in-Ok.first (g.B.Counting.left c.args.budget.now) (g.B.Counting.left c.among_at.new.budget) (datum_stop c.among_at.result) c.in-Ok.is c.among_at.ensures.spent
 
 pub datum_walk::made_at-returns-in-InList-clause-spent : goal.datum_walk::made_at-returns-in-InList-clause-spent
 datum_walk::made_at-returns-in-InList-clause-spent g t c =
@@ -1162,20 +1177,20 @@ pub lambda_walk::members_at-returns-clause-spent : goal.lambda_walk::members_at-
 lambda_walk::members_at-returns-clause-spent g t c =
     all_paid c.args.context.now c.args.body.place c.args.body.quantifier c.args.variable.now c.args.members.now c.loop-at.at (g.B.Counting.left c.args.budget.now) (g.B.Counting.left c.loop-at.budget) c.loop-at.invariant.paid c.loop-at-test.false
 
-pub lambda_walk::members_at-returns-then-not-take_one-clause-spent : goal.lambda_walk::members_at-returns-then-not-take_one-clause-spent
-lambda_walk::members_at-returns-then-not-take_one-clause-spent g t c =
+pub lambda_walk::members_at-returns-then-not-take-clause-spent : goal.lambda_walk::members_at-returns-then-not-take-clause-spent
+lambda_walk::members_at-returns-then-not-take-clause-spent g t c =
     none_left c.args.context.now c.args.body.place c.args.body.quantifier c.args.variable.now c.args.members.now c.loop-at.at (g.B.Counting.left c.args.budget.now) (g.B.Counting.left c.loop-at.budget) c.loop-at.invariant.paid c.loop-at-test.true
-    (subst (λ (b : Bool). IsTaken b (g.B.Counting.left c.loop-at.budget) (g.B.Counting.left c.take_one.new.self) 1) c.if-not-take_one.true c.take_one.ensures) (g.B.Counting.left c.take_one.new.self)
+    (subst (λ (b : Bool). IsTaken b (g.B.Counting.left c.loop-at.budget) (g.B.Counting.left c.take.new.self) 1) c.if-not-take.true c.take.ensures) (g.B.Counting.left c.take.new.self)
 
 pub lambda_walk::members_at-returns-in-Err-clause-spent : goal.lambda_walk::members_at-returns-in-Err-clause-spent
 lambda_walk::members_at-returns-in-Err-clause-spent g t c =
-    body_stops c.args.context.now c.args.body.place c.args.body.quantifier c.args.variable.now c.args.members.now c.loop-at.at (g.B.Counting.left c.args.budget.now) (g.B.Counting.left c.loop-at.budget) c.loop-at.invariant.paid c.loop-at-test.true c.index-members-at.result (sym c.index-members-at.is) (g.B.Counting.left c.take_one.new.self) (subst (λ (b : Bool). IsTaken b (g.B.Counting.left c.loop-at.budget) (g.B.Counting.left c.take_one.new.self) 1) c.if-not-take_one.false c.take_one.ensures) (g.B.Counting.left c.side_at.new.budget) (subst (λ (s : ContextModel). EndsOnceHere s) c.bind.ensures c.ends_once.ensures) c.in-Err.stop
-    (truth_faults (with_frame c.args.context.now (frame_of c.args.variable.now c.index-members-at.result)) c.args.body.place c.in-Err.stop (subst (λ (s : ContextModel). CountedTruth s c.args.body.place (Err c.in-Err.stop)) c.bind.ensures c.in-Err.ensures.answers)) (subst (λ (s : ContextModel). SpendsAt s c.args.body.place (g.B.Counting.left c.take_one.new.self) (g.B.Counting.left c.side_at.new.budget) (Some c.in-Err.stop)) c.bind.ensures c.in-Err.ensures.spent)
+    body_stops c.args.context.now c.args.body.place c.args.body.quantifier c.args.variable.now c.args.members.now c.loop-at.at (g.B.Counting.left c.args.budget.now) (g.B.Counting.left c.loop-at.budget) c.loop-at.invariant.paid c.loop-at-test.true c.index-members-at.result (sym c.index-members-at.is) (g.B.Counting.left c.take.new.self) (subst (λ (b : Bool). IsTaken b (g.B.Counting.left c.loop-at.budget) (g.B.Counting.left c.take.new.self) 1) c.if-not-take.false c.take.ensures) (g.B.Counting.left c.side_at.new.budget) (subst (λ (s : ContextModel). EndsOnceHere s) c.bind.ensures c.ends_once.ensures) c.in-Err.stop
+    (truth_faults (with_frame c.args.context.now (frame_of c.args.variable.now c.index-members-at.result)) c.args.body.place c.in-Err.stop (subst (λ (s : ContextModel). CountedTruth s c.args.body.place (Err c.in-Err.stop)) c.bind.ensures c.in-Err.ensures.answers)) (subst (λ (s : ContextModel). SpendsAt s c.args.body.place (g.B.Counting.left c.take.new.self) (g.B.Counting.left c.side_at.new.budget) (Some c.in-Err.stop)) c.bind.ensures c.in-Err.ensures.spent)
 
 pub lambda_walk::members_at-returns-then-not-is_undecided-clause-spent : goal.lambda_walk::members_at-returns-then-not-is_undecided-clause-spent
 lambda_walk::members_at-returns-then-not-is_undecided-clause-spent g t c =
-    body_decides c.args.context.now c.args.body.place c.args.body.quantifier c.args.variable.now c.args.members.now c.loop-at.at (g.B.Counting.left c.args.budget.now) (g.B.Counting.left c.loop-at.budget) c.loop-at.invariant.paid c.loop-at-test.true c.index-members-at.result (sym c.index-members-at.is) (g.B.Counting.left c.take_one.new.self) (subst (λ (b : Bool). IsTaken b (g.B.Counting.left c.loop-at.budget) (g.B.Counting.left c.take_one.new.self) 1) c.if-not-take_one.false c.take_one.ensures) (g.B.Counting.left c.side_at.new.budget) (subst (λ (s : ContextModel). EndsOnceHere s) c.bind.ensures c.ends_once.ensures) c.in-Ok.truth
-    (subst (λ (s : ContextModel). AnswersTruth s c.args.body.place (Ok c.in-Ok.truth)) c.bind.ensures c.in-Ok.ensures.answers) (subst (λ (s : ContextModel). SpendsAt s c.args.body.place (g.B.Counting.left c.take_one.new.self) (g.B.Counting.left c.side_at.new.budget) None) c.bind.ensures c.in-Ok.ensures.spent) (λ passes. let e = c.is_undecided.ensures.1 passes in cc)
+    body_decides c.args.context.now c.args.body.place c.args.body.quantifier c.args.variable.now c.args.members.now c.loop-at.at (g.B.Counting.left c.args.budget.now) (g.B.Counting.left c.loop-at.budget) c.loop-at.invariant.paid c.loop-at-test.true c.index-members-at.result (sym c.index-members-at.is) (g.B.Counting.left c.take.new.self) (subst (λ (b : Bool). IsTaken b (g.B.Counting.left c.loop-at.budget) (g.B.Counting.left c.take.new.self) 1) c.if-not-take.false c.take.ensures) (g.B.Counting.left c.side_at.new.budget) (subst (λ (s : ContextModel). EndsOnceHere s) c.bind.ensures c.ends_once.ensures) c.in-Ok.truth
+    (subst (λ (s : ContextModel). AnswersTruth s c.args.body.place (Ok c.in-Ok.truth)) c.bind.ensures c.in-Ok.ensures.answers) (subst (λ (s : ContextModel). SpendsAt s c.args.body.place (g.B.Counting.left c.take.new.self) (g.B.Counting.left c.side_at.new.budget) None) c.bind.ensures c.in-Ok.ensures.spent) (λ passes. let e = c.is_undecided.ensures.1 passes in cc)
 
 pub collection_walk::listed_at-returns-clause-spent : goal.collection_walk::listed_at-returns-clause-spent
 collection_walk::listed_at-returns-clause-spent g t c =

@@ -68,19 +68,19 @@ module _ (types : OneType) (context : ContextModel) (place : ℕ) (quantifier : 
     -- the cost over members, with a variable of that name and that type
     abbrev Over : List ℕ → ExprType → Tree → List Value → ℕ → Type 0
     Over name t body members =
-        MembersCost quantifier (λ v. Means (slots_of context.row.schema) (type_name_at context.row.schema context.row.type_id) context.moment (value_of context.row) (bound_over (environment_of context) name t v) body)
+        MembersCost 1 quantifier (λ v. Means (slots_of context.row.schema) (type_name_at context.row.schema context.row.type_id) context.moment (value_of context.row) (bound_over (environment_of context) name t v) body)
         (λ v. Costs (slots_of context.row.schema) (type_name_at context.row.schema context.row.type_id) context.moment (value_of context.row) (bound_over (environment_of context) name t v) body)
         (vals_of (slots_of context.row.schema) t members)
 
     as_variable : (asked : List ℕ) (type : SingleType) (body : Tree) → IsNamed types context place quantifier here variable is_variable asked type → (members : List Value) (n : ℕ)
-        → MembersCost quantifier (λ v. Means (slots_of context.row.schema) (type_name_at context.row.schema context.row.type_id) context.moment (value_of context.row) (bound_over (environment_of context) asked (single type) v) body)
+        → MembersCost 1 quantifier (λ v. Means (slots_of context.row.schema) (type_name_at context.row.schema context.row.type_id) context.moment (value_of context.row) (bound_over (environment_of context) asked (single type) v) body)
         (λ v. Costs (slots_of context.row.schema) (type_name_at context.row.schema context.row.type_id) context.moment (value_of context.row) (bound_over (environment_of context) asked (single type) v) body)
         (items_of (slots_of context.row.schema).properties type (map val_of members)) n
         → Over variable.name.now (type_of_variable context variable) body members n
     as_variable asked type body named members n costs =
         subst (λ (name : List ℕ). Over name (type_of_variable context variable) body members n) (sym named.name_same)
         (subst (λ (t : ExprType). Over asked t body members n) (sym named.type_same)
-        (subst (λ (vals : Vals). MembersCost quantifier (λ v. Means (slots_of context.row.schema) (type_name_at context.row.schema context.row.type_id) context.moment (value_of context.row) (bound_over (environment_of context) asked (single type) v) body)
+        (subst (λ (vals : Vals). MembersCost 1 quantifier (λ v. Means (slots_of context.row.schema) (type_name_at context.row.schema context.row.type_id) context.moment (value_of context.row) (bound_over (environment_of context) asked (single type) v) body)
         (λ v. Costs (slots_of context.row.schema) (type_name_at context.row.schema context.row.type_id) context.moment (value_of context.row) (bound_over (environment_of context) asked (single type) v) body) vals n)
         (sym (vals_same (slots_of context.row.schema) type members)) costs))
 
@@ -117,7 +117,7 @@ module _ (types : OneType) (context : ContextModel) (place : ℕ) (quantifier : 
               (subst (λ (m : ℕ). Stands context.row.schema context.row.type_id (with_variable (scope_of (environment_of context)) asked (single behind.member_type)) context.list m last body)
               (stops_there context (place + 1) stands.children.middle right base stands.children.left is_right) behind.body))
               (as_variable asked typed.member_type body named held.now costs.rest
-              (subst (λ (m : SingleType). MembersCost quantifier (λ v. Means slots root context.moment (value_of context.row) (bound_over (environment_of context) asked (single m) v) body)
+              (subst (λ (m : SingleType). MembersCost 1 quantifier (λ v. Means slots root context.moment (value_of context.row) (bound_over (environment_of context) asked (single m) v) body)
               (λ v. Costs slots root context.moment (value_of context.row) (bound_over (environment_of context) asked (single m) v) body) (items_of slots.properties typed.member_type (map val_of held.now)) costs.rest)
               same asks.2));
         })

@@ -47,7 +47,7 @@ module _ (context : ContextModel) (place : ℕ) (quantifier : Quantifier) (varia
       (bound_over (environment_of context) variable.name.now (type_of_variable context variable) v) body
 
   abbrev pub CostOver : Tree → List Value → ℕ → Type 0
-  CostOver body some = MembersCost quantifier (BodyMeans context variable body) (BodyCosts body) (vals_of (slots_of context.row.schema) (type_of_variable context variable) some)
+  CostOver body some = MembersCost 1 quantifier (BodyMeans context variable body) (BodyCosts body) (vals_of (slots_of context.row.schema) (type_of_variable context variable) some)
 
   abbrev OneCosts : Tree → Value → List Value → ℕ → Type 0
   OneCosts body member more =

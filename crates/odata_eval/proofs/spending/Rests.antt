@@ -27,7 +27,7 @@ use Rattle.odata_meaning.specs.private.Decided.{IsDecided}
 use Rattle.odata_meaning.proofs.costs.PlainTypes.{arguments_free}
 use Rattle.odata_meaning.proofs.costs.Zero.{IsFree, then_free}
 use Rattle.odata_eval.proofs.spending.Budgets.{spent_same, takes_nothing}
-use Rattle.odata_eval.proofs.spending.Free.{FreeThere, flags_plain_type, path_plain_type, plain_here}
+use Rattle.odata_eval.proofs.spending.Free.{FreeThere, flags_plain_type, plain_here}
 use Rattle.odata_eval.proofs.spending.Splits.{follows, no_more, number_free, operand_spent, rest_spends, SplitWith}
 use Rattle.odata_eval.proofs.walking.Children.{only_child}
 use Rattle.odata_eval.proofs.walking.Parts.{by_kind}
@@ -71,7 +71,6 @@ HasNoRest NodeKind.AnyItem = Unit {0}
 HasNoRest NodeKind.Not = Unit {0}
 HasNoRest (NodeKind.Call function) = Unit {0}
 HasNoRest NodeKind.Has = Unit {0}
-HasNoRest NodeKind.InPath = Unit {0}
 HasNoRest _ = ⊥
 
 module _ (context : ContextModel) where
@@ -132,11 +131,6 @@ module _ (context : ContextModel) where
       (λ left right stop from to stands n costs.
       let free = flags_free from to left right _ stands.children.middle stands.children.right.middle stands.top.typed stands.children.right.left in
       no_rest_after place stands.children.middle left (inl stands.children.left) (λ l. CostsHere context right) (λ l. free) n costs)
-  no_rest place NodeKind.InPath none here = by_kind context place NodeKind.InPath here (NoRest place)
-      (λ left path stop from to stands n costs.
-      let typed = stands.top.typed in
-      let free = plain_here context path typed.right typed.right_typed (path_plain_type typed.left typed.right typed.makes.0) in
-      no_rest_after place stands.children.middle left (inl stands.children.left) (λ l. CostsHere context path) (λ l. free) n costs)
   no_rest place _ none here = absurd none
 
   other_kind : (kind : NodeKind) → HasNoRest kind → IsOther kind

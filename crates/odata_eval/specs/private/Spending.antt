@@ -1,5 +1,5 @@
 -- For private clauses: what an answer leaves of a budget.
-use Rattle.std.specs.Prelude.{◌≡◌, ◌<◌, ◌+◌, ℕ, ℤ, List, Option, Some, None, Result, Ok, Err, Bool, true, false}
+use Rattle.std.specs.Prelude.{◌≡◌, ◌<◌, ◌+◌, ℕ, ℤ, List, [], ◌∷◌, Option, Some, None, Result, Ok, Err, Bool, true, false}
 use Rattle.edm_values.specs.declared.datum.Datum.{Datum}
 use Rattle.edm_values.specs.declared.value.Value.{Value}
 use Rattle.csdl_schema.specs.ExprType.{ExprType}
@@ -10,7 +10,7 @@ use Rattle.odata_syntax.specs.declared.node.Quantifier.{Quantifier}
 use Rattle.odata_filter_operations.specs.declared.eval_fault.EvalFault.{EvalFault}
 use Rattle.odata_meaning.specs.Costs.{Costs, MembersCost}
 use Rattle.odata_meaning.specs.CostsOnce.{CostsOnce}
-use Rattle.odata_meaning.specs.Environment.{bound_over}
+use Rattle.odata_meaning.specs.Environment.{Environment, bound_over}
 use Rattle.odata_eval.specs.declared.budget.Budget.{Budget}
 use Rattle.odata_eval.specs.declared.frames.RangeVariable.{RangeVariable}
 use Rattle.odata_eval.specs.declared.stop.EvalStop.{EvalStop}
@@ -62,6 +62,11 @@ abbrev pub Takes : Budget → Budget → ℕ → Type 0
 Takes Budget.Unbounded Budget.Unbounded n = Unit {0}
 Takes (Budget.Left old) (Budget.Left new) n = old ≡ n + new
 Takes _ _ n = ⊥
+
+-- so many members were compared: within a body one for each
+abbrev pub compared_cost : Environment → ℕ → ℕ
+compared_cost [] count = 0
+compared_cost (innermost ∷ others) count = count
 
 -- the budget had fewer
 abbrev pub HasFewer : Budget → ℕ → Type 0
@@ -116,7 +121,7 @@ pub record SpendsMembers
     (old new : Budget) (stop : Option EvalStop) : Type 0 where
   pub of_body :
       (last : ℕ) (body : Tree) (n : ℕ) → BodyStands context variable place last body
-      → MembersCost quantifier (BodyMeans context variable body)
+      → MembersCost 1 quantifier (BodyMeans context variable body)
       (λ v. Costs (slots_of context.row.schema) (type_name_at context.row.schema context.row.type_id) context.moment
       (value_of context.row)
       (bound_over (environment_of context) variable.name.now (type_of_variable context variable) v) body)

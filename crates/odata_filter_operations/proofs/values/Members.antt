@@ -1,6 +1,6 @@
 -- The members of a collection that is borrowed, and whether a value equals one of them.
-use Rattle.std.proofs.Common.{◌≡◌, ◌∙◌, ℕ, ◌<◌, ◌≤◌, ◌+◌, List, [], ◌∷◌, Bool, true, false, Some, length, map, slice_get, ap, refl, sym, subst, inl, inr, arith}
-use Rattle.std.specs.Prelude.{IsTrue, ◌↔◌}
+use Rattle.std.proofs.Common.{◌≡◌, ◌∙◌, ℕ, ◌<◌, ◌≤◌, ◌+◌, List, [], ◌∷◌, Bool, true, false, Option, Some, None, length, map, slice_get, ap, refl, sym, subst, inl, inr, arith}
+use Rattle.std.specs.Prelude.{IfSome, IsTrue, ◌↔◌}
 use Rattle.std.specs.Option.{option_map}
 use Rattle.std.proofs.lemmas.Bool.{cases_lt}
 use Rattle.std.proofs.lemmas.List.{length-map}
@@ -21,8 +21,9 @@ use Rattle.odata_filter_operations.specs.CompareGives.{CompareGives}
 use Rattle.odata_filter_operations.specs.LambdaGives.{MemberGives, MembersGive}
 use Rattle.odata_filter_operations.specs.Outcome.{gives}
 use Rattle.odata_filter_operations.specs.QuantifierGives.{Passes}
+use Rattle.odata_filter_operations.specs.TruthGives.{truth_val}
 use Rattle.odata_filter_operations.specs.DatumView.{IsDatumOf, reading_at}
-use Rattle.odata_filter_operations.specs.Collections.{Differs, DiffersBefore, Equals, IsAmong, MayBeMember}
+use Rattle.odata_filter_operations.specs.Collections.{AreCompared, Differs, DiffersBefore, Equals, FirstEqual, IsAmong, MayBeMember}
 use Rattle.odata_filter_operations.proofs.values.Holding.{ComparedAnyhow}
 use Rattle.odata_filter_operations.proofs.values.Holding.{there_found}
 
@@ -76,6 +77,14 @@ differs_further left held place found at differs before k within other there =
           subst (Differs left) is differs)
     ]
 
+-- it is the first one that is equal
+pub first_equal : (left : Datum) (held : List Value) (place : ℕ) (found : Value) → slice_get held place ≡ Some found → Equals left found → DiffersBefore left held place → FirstEqual left held
+first_equal left held place found at equals before = record { place = place; found = found; stands_at = at; equals = equals; earlier = before }
+
+pub compared_to_first : (left : Datum) (held : List Value) (place : ℕ) (found : Value) → slice_get held place ≡ Some found → Equals left found → DiffersBefore left held place
+    → AreCompared left held (place + 1)
+compared_to_first left held place found at equals before = inl (record { place = place; found = found; stands_at = at; equals = equals; earlier = before }, refl)
+
 -- and none is left
 pub differs_all : (left : Datum) (held : List Value) (place : ℕ) → length held ≤ place → DiffersBefore left held place
     → (k : ℕ) (found : Value) → slice_get held k ≡ Some found → Differs left found
@@ -121,3 +130,8 @@ module _ (slots : Slots) (type : ExprType) (member : SingleType) (left : Datum) 
     each = λ k within. passes_within k (subst (λ (n : ℕ). k < n) (as_many_members slots member held) within) (none k);
     is = refl;
   })
+
+  pub truth_gives : (truth : Option Bool) → ¬ (truth ≡ None) → IfSome truth (IsAmong left held)
+      → MembersGive Quantifier.Any (CompareGives ComparisonOperator.Eq (datum_val (reading_at slots type) left)) (items_of slots.properties member (map val_of held)) (gives (truth_val truth))
+  truth_gives (Some answer) some among = among_gives answer among
+  truth_gives None some among = absurd (some refl)

@@ -14,12 +14,13 @@ use Rattle.odata_syntax.specs.declared.binary_operator.ComparisonOperator.{Compa
 use Rattle.odata_syntax.specs.Tree.{Tree, node, literal, it, name, count, negation, logical_not, binary, in_list, in_path, call, any_item, lambda, Trees, no_trees, more_trees}
 use Rattle.odata_syntax.specs.Tree as tree
 use Rattle.odata_syntax.specs.declared.node.Quantifier.{Quantifier}
+use Rattle.odata_signatures.specs.CollectionTyped.{IsComparableWithMembers}
 use Rattle.odata_signatures.specs.ExprTypes.{boolean_type}
 use Rattle.odata_signatures.specs.Typed.{AreTyped, Typed}
 use Rattle.odata_filter_operations.specs.CompareGives.{CompareGives}
 use Rattle.odata_filter_operations.specs.LeftFirst.{After}
 use Rattle.odata_filter_operations.specs.Outcome.{Outcome, gives}
-use Rattle.odata_meaning.specs.Costs.{ArgumentsCost, Costs, ItemsCost, LambdaCosts, MembersCost, OthersCost, RightCosts, item_cost}
+use Rattle.odata_meaning.specs.Costs.{AmongCosts, ArgumentsCost, CostAfter, Costs, CostsNothing, ItemsCost, LambdaCosts, MembersCost, OthersCost, RightCosts, item_cost}
 use Rattle.odata_meaning.specs.CostsOnce.{CostsOnceOnEntities}
 use Rattle.odata_meaning.specs.EndsOnce.{IsOutcomeOf, TypedEndsOnce}
 use Rattle.odata_meaning.specs.Environment.{Environment, IsFitting, bound_over, scope_of}
@@ -42,19 +43,33 @@ reads_have slots (single (enumeration of)) (Some spelling) n number = number.wit
 reads_have slots (single (enumeration of)) None n number = absurd number
 reads_have slots _ quoted n number = absurd number
 
-members_once : (quantifier : Quantifier) (Body : Val → Outcome → Type 0) (BodyCosts : Val → ℕ → Type 0) (slots : Slots) (m : SingleType)
+members_once : (each : ℕ) (quantifier : Quantifier) (Body : Val → Outcome → Type 0) (BodyCosts : Val → ℕ → Type 0) (slots : Slots) (m : SingleType)
     → ((v : Val) → HasType slots (single m) v → EndsAlone (Body v)) → ((v : Val) → HasType slots (single m) v → Once (BodyCosts v))
-    → (values : Vals) → AllHaveType slots m values → Once (MembersCost quantifier Body BodyCosts values)
-members_once quantifier Body BodyCosts slots m ends once no_items all = nothing_once
-members_once quantifier Body BodyCosts slots m ends once (item v more) all =
-    more_once 1 _
-    (after_once (Body v) (BodyCosts v) (OthersCost quantifier (MembersCost quantifier Body BodyCosts more)) (ends v all.0) (once v all.0)
-    (λ w is. others_once quantifier (MembersCost quantifier Body BodyCosts more) w (members_once quantifier Body BodyCosts slots m ends once more all.1)))
+    → (values : Vals) → AllHaveType slots m values → Once (MembersCost each quantifier Body BodyCosts values)
+members_once each quantifier Body BodyCosts slots m ends once no_items all = nothing_once
+members_once each quantifier Body BodyCosts slots m ends once (item v more) all =
+    more_once each _
+    (after_once (Body v) (BodyCosts v) (OthersCost quantifier (MembersCost each quantifier Body BodyCosts more)) (ends v all.0) (once v all.0)
+    (λ w is. others_once quantifier (MembersCost each quantifier Body BodyCosts more) w (members_once each quantifier Body BodyCosts slots m ends once more all.1)))
+
+-- members compared with a value of a type that is compared with theirs
+compared_once : OneEach → SomeEach → (slots : Slots) (left : ExprType) (m : SingleType) (l v : Val) → IsComparableWithMembers left (collection m) → HasType slots left l → HasType slots (single m) v
+    → EndsAlone (CompareGives ComparisonOperator.Eq l v)
+compared_once one some slots left m l v alike of_l of_v =
+    let end = compare_ends some slots ComparisonOperator.Eq left (single m) boolean_type l v (alike, refl) of_l of_v in
+    record { outcome = end.0; is = end.1.0; only = λ other is. CompareGives-one ComparisonOperator.Eq l v other end.0 is end.1.0 }
+
+among_once : OneEach → SomeEach → (slots : Slots) (each : ℕ) (left path : ExprType) (l v : Val) → IsComparableWithMembers left path → HasType slots left l → HasType slots path v → Once (AmongCosts each l v)
+among_once one some slots each left (collection m) l null alike of_l of_v = nothing_once
+among_once one some slots each left (collection m) l (items values) alike of_l of_v =
+    members_once each Quantifier.Any (CompareGives ComparisonOperator.Eq l) (λ v. CostsNothing) slots m (λ v of_v. compared_once one some slots left m l v alike of_l of_v) (λ v of_v. nothing_once) values of_v
+among_once one some slots each left (collection m) l _ alike of_l of_v = absurd of_v
+among_once one some slots each left _ l v alike of_l of_v = absurd alike
 
 -- the type of a collection's members is one
 over_once : (quantifier : Quantifier) (BaseTyped : ExprType → Type 0) (Body : ExprType → Val → Outcome → Type 0) (BodyCosts : ExprType → Val → ℕ → Type 0) (slots : Slots) (m : SingleType)
     → BaseTyped (collection m) → ((s t : ExprType) → BaseTyped s → BaseTyped t → s ≡ t) → (v : Val) → HasType slots (collection m) v
-    → ((values : Vals) → AllHaveType slots m values → Once (MembersCost quantifier (Body (single m)) (BodyCosts (single m)) values))
+    → ((values : Vals) → AllHaveType slots m values → Once (MembersCost 1 quantifier (Body (single m)) (BodyCosts (single m)) values))
     → Once (LambdaCosts quantifier BaseTyped Body BodyCosts v)
 over_once quantifier BaseTyped Body BodyCosts slots m over one null has members = nothing_once
 over_once quantifier BaseTyped Body BodyCosts slots m over one (items values) has members =
@@ -65,7 +80,7 @@ over_once quantifier BaseTyped Body BodyCosts slots m over one (items values) ha
       only = λ other costs.
           let kinds : collection costs.0 ≡ collection m = one (collection costs.0) (collection m) costs.1 over in
           let same : costs.0 ≡ m = cc in
-          once.only other (subst (λ (s : SingleType). MembersCost quantifier (Body (single s)) (BodyCosts (single s)) values other) same costs.2);
+          once.only other (subst (λ (s : SingleType). MembersCost 1 quantifier (Body (single s)) (BodyCosts (single s)) values other) same costs.2);
     }
 over_once quantifier BaseTyped Body BodyCosts slots m over one _ has members = absurd has
 
@@ -140,9 +155,14 @@ module _ (one : OneEach) (some : SomeEach) (all_end : TypedEndsOnce) (slots : Sl
         (ends environment fitting left typed.left typed.left_typed) (tree_once environment fitting left typed.left typed.left_typed)
         (λ l is. tree_once environment fitting right typed.right typed.right_typed)
     tree_once environment fitting (node start stop (in_path left path)) type typed =
-        after_once (Means slots root now entity environment left) (Costs slots root now entity environment left) (λ l. Costs slots root now entity environment path)
+        after_once (Means slots root now entity environment left) (Costs slots root now entity environment left)
+        (λ l. CostAfter (Means slots root now entity environment path) (Costs slots root now entity environment path) (AmongCosts (item_cost environment) l))
         (ends environment fitting left typed.left typed.left_typed) (tree_once environment fitting left typed.left typed.left_typed)
-        (λ l is. tree_once environment fitting path typed.right typed.right_typed)
+        (λ l is.
+        after_once (Means slots root now entity environment path) (Costs slots root now entity environment path) (AmongCosts (item_cost environment) l)
+        (ends environment fitting path typed.right typed.right_typed) (tree_once environment fitting path typed.right typed.right_typed)
+        (λ v of_path. among_once one some slots (item_cost environment) typed.left typed.right l v typed.makes.0 (value_typed environment fitting left typed.left typed.left_typed l is)
+        (value_typed environment fitting path typed.right typed.right_typed v of_path)))
     tree_once environment fitting (node start stop (in_list left listed)) type typed =
         let OtherSide : ExprType → Type 0 = Typed slots root (scope_of environment) left in
         after_once (Means slots root now entity environment left) (Costs slots root now entity environment left)
@@ -163,7 +183,7 @@ module _ (one : OneEach) (some : SomeEach) (all_end : TypedEndsOnce) (slots : Sl
         (ends environment fitting base (collection m) typed.binds.over) (tree_once environment fitting base (collection m) typed.binds.over)
         (λ v is. over_once quantifier BaseTyped Body BodyCosts slots m typed.binds.over (λ s t p q. one.types slots root (scope_of environment) base s t p q) v
         (value_typed environment fitting base (collection m) typed.binds.over v is)
-        (λ values all. members_once quantifier (Body (single m)) (BodyCosts (single m)) slots m
+        (λ values all. members_once 1 quantifier (Body (single m)) (BodyCosts (single m)) slots m
         (λ w of_w. ends (bound_over environment variable (single m) w) (of_w, fitting) body typed.body typed.body_typed)
         (λ w of_w. tree_once (bound_over environment variable (single m) w) (of_w, fitting) body typed.body typed.body_typed) values all))
 

@@ -2,7 +2,7 @@
 use Rattle.std.proofs.Common.{refl, ℕ, ◌+◌, List, [], ◌∷◌, codes, inr, true, false}
 use Rattle.std.specs.Prelude.{pos}
 use Rattle.edm_values.specs.MomentParts.{MomentParts}
-use Rattle.edm_values.specs.Val.{Val, boolean, null, text, whole, items, no_items}
+use Rattle.edm_values.specs.Val.{Val, boolean, null, text, whole, item, items, no_items}
 use Rattle.edm_values.specs.declared.primitive.PrimitiveType.{PrimitiveType}
 use Rattle.csdl_schema.specs.ExprType.{ExprType, primitive, single}
 use Rattle.odata_syntax.specs.declared.binary_operator.ComparisonOperator.{ComparisonOperator}
@@ -16,9 +16,9 @@ use Rattle.odata_meaning.specs.ComesToMembers.{all_alike, is_alike, is_null, nam
 use Rattle.odata_meaning.specs.Costs.{CostAfter, Costs, CostThen}
 use Rattle.odata_meaning.specs.Environment.{Environment, bound_over, scope_of}
 use Rattle.odata_meaning.specs.Means.{Means}
-use Rattle.odata_meaning.specs.OneByOne.{ItemAlone}
-use Rattle.odata_meaning.specs.SomeCosts.{CostsOnTags, fault_first, is_listed}
-use Rattle.odata_meaning.proofs.meaning.OneByOne.{items_both}
+use Rattle.odata_meaning.specs.OneByOne.{ItemAlone, MembersGo}
+use Rattle.odata_meaning.specs.SomeCosts.{CostsOnTags, fault_first, is_listed, is_member}
+use Rattle.odata_meaning.proofs.meaning.OneByOne.{items_both, members_both}
 use Rattle.odata_meaning.proofs.meaning.MembersLaws.{divides, free, null_is_null, one, text_is_null, within_null, within_text}
 
 -- what an operand costs, and after it what follows
@@ -136,3 +136,46 @@ listed_costs root now =
 
 pub listed : CostsOnTags text_and_null (over_tags Quantifier.All is_listed) 3
 listed root now = paid (gives text_and_null) 0 3 refl refl (primitive PrimitiveType.String, refl, (2, paid (gives (boolean false)) 2 0 (listed_is_false root now) (listed_costs root now) refl, refl))
+
+-- `t in Tags`, with `t` at a value
+member_is_true : (root : List ℕ) (now : MomentParts) (v : Val) → MembersGo Quantifier.Any (CompareGives ComparisonOperator.Eq v) (item (text (codes "a")) (item null no_items)) (gives (boolean true))
+    → Means tagged_slots root now (tagged text_and_null) (At v) is_member (gives (boolean true))
+member_is_true root now v go = (
+  gives v,
+  (
+    refl,
+    (gives text_and_null, (refl, (members_both Quantifier.Any (CompareGives ComparisonOperator.Eq v) (item (text (codes "a")) (item null no_items)) (gives (boolean true))).1 go)),
+  ),
+)
+
+-- the text is equal to itself, null to the member after it
+text_costs : (root : List ℕ) (now : MomentParts) → Costs tagged_slots root now (tagged text_and_null) (At (text (codes "a"))) is_member 1
+text_costs root now =
+    paid (gives (text (codes "a"))) 0 1 refl refl
+    (paid (gives text_and_null) 0 1 refl refl (0, paid (gives (boolean true)) 0 0 (tt, (λ is. refl, λ is. refl)) refl refl, refl))
+
+null_costs : (root : List ℕ) (now : MomentParts) → Costs tagged_slots root now (tagged text_and_null) (At null) is_member 2
+null_costs root now =
+    paid (gives null) 0 2 refl refl
+    (paid (gives text_and_null) 0 2 refl refl (
+      1,
+      paid (gives (boolean false)) 0 1 (tt, (λ no. cc, λ no. absurd no)) refl (0, paid (gives (boolean true)) 0 0 (tt, (λ is. tt, λ is. refl)) refl refl, refl),
+      refl,
+    ))
+
+pub compared : CostsOnTags text_and_null (over_tags Quantifier.All is_member) 5
+compared root now =
+    paid (gives text_and_null) 0 5 refl refl (
+      primitive PrimitiveType.String,
+      refl,
+      (
+        4,
+        paid (gives (boolean true)) 1 3 (member_is_true root now (text (codes "a")) (gives (boolean true), ((tt, (λ is. refl, λ is. refl)), refl))) (text_costs root now) (
+          2,
+          paid (gives (boolean true)) 2 0 (member_is_true root now null (gives (boolean false), ((tt, (λ no. cc, λ no. absurd no)), (gives (boolean true), ((tt, (λ is. tt, λ is. refl)), refl)))))
+              (null_costs root now) refl,
+          refl,
+        ),
+        refl,
+      ),
+    )

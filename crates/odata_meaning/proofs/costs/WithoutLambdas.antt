@@ -1,7 +1,7 @@
 -- A tree without lambda operators costs nothing.
 use Rattle.std.proofs.Common.{◌≡◌, ◌+◌, ℕ, List, [], max, arith}
 use Rattle.edm_values.specs.MomentParts.{MomentParts}
-use Rattle.edm_values.specs.Val.{Val}
+use Rattle.edm_values.specs.Val.{Val, null, items, Vals, no_items, item}
 use Rattle.csdl_schema.specs.SchemaModel.{Slots}
 use Rattle.odata_syntax.specs.declared.binary_operator.ComparisonOperator.{ComparisonOperator}
 use Rattle.odata_syntax.specs.Tree.{Tree, node, literal, it, name, count, negation, logical_not, binary, in_list, in_path, call, any_item, lambda, Trees, no_trees, more_trees}
@@ -11,7 +11,7 @@ use Rattle.odata_checked_filter.specs.LambdaDepth.{lambda_depth, lambda_depth_am
 use Rattle.odata_signatures.specs.Typed.{Typed}
 use Rattle.odata_filter_operations.specs.CompareGives.{CompareGives}
 use Rattle.odata_filter_operations.specs.LeftFirst.{After}
-use Rattle.odata_meaning.specs.Costs.{ArgumentsCost, Costs, ItemsCost, OthersCost, RightCosts}
+use Rattle.odata_meaning.specs.Costs.{AmongCosts, ArgumentsCost, CostAfter, Costs, CostsNothing, ItemsCost, MembersCost, OthersCost, RightCosts}
 use Rattle.odata_meaning.specs.CostsOnce.{CostsNothingWithoutLambdas}
 use Rattle.odata_meaning.specs.Means.{Means}
 use Rattle.odata_meaning.specs.OneByOne.{ItemAlone}
@@ -25,6 +25,20 @@ right_none a b is = grind (arith, is)
 
 one_more : (a : ℕ) → a + 1 ≡ 0 → ⊥
 one_more a is = omega (arith, is)
+
+-- members that are compared outside of bodies
+members_free : (l : Val) (values : Vals) → IsFree (MembersCost 0 Quantifier.Any (CompareGives ComparisonOperator.Eq l) (λ v. CostsNothing) values)
+members_free l no_items = λ n is. is
+members_free l (item v more) = λ n is.
+    let first : is.0 ≡ 0 = after_free (CompareGives ComparisonOperator.Eq l v) CostsNothing (OthersCost Quantifier.Any (MembersCost 0 Quantifier.Any (CompareGives ComparisonOperator.Eq l) (λ v. CostsNothing) more))
+    (λ k none. none) (λ w. others_free Quantifier.Any (MembersCost 0 Quantifier.Any (CompareGives ComparisonOperator.Eq l) (λ v. CostsNothing) more) w (members_free l more)) is.0 is.1 in
+    let sum : n ≡ 0 + is.0 = is.2 in
+    omega (arith, sum, first)
+
+pub among_free : (l v : Val) → IsFree (AmongCosts 0 l v)
+among_free l null = λ n is. is
+among_free l (items values) = members_free l values
+among_free l _ = λ n is. absurd is
 
 module _ (slots : Slots) (root : List ℕ) (now : MomentParts) (entity : Val) where
   mutual
@@ -45,8 +59,11 @@ module _ (slots : Slots) (root : List ℕ) (now : MomentParts) (entity : Val) wh
         after_free (Means slots root now entity [] left) (Costs slots root now entity [] left) (λ l. Costs slots root now entity [] right)
         (free_without left (left_none (lambda_depth left) (lambda_depth right) none)) (λ l. free_without right (right_none (lambda_depth left) (lambda_depth right) none))
     free_without (node start stop (in_path left path)) none =
-        after_free (Means slots root now entity [] left) (Costs slots root now entity [] left) (λ l. Costs slots root now entity [] path)
-        (free_without left (left_none (lambda_depth left) (lambda_depth path) none)) (λ l. free_without path (right_none (lambda_depth left) (lambda_depth path) none))
+        after_free (Means slots root now entity [] left) (Costs slots root now entity [] left)
+        (λ l. CostAfter (Means slots root now entity [] path) (Costs slots root now entity [] path) (AmongCosts 0 l))
+        (free_without left (left_none (lambda_depth left) (lambda_depth path) none))
+        (λ l. after_free (Means slots root now entity [] path) (Costs slots root now entity [] path) (AmongCosts 0 l)
+        (free_without path (right_none (lambda_depth left) (lambda_depth path) none)) (among_free l))
     free_without (node start stop (in_list left listed)) none =
         after_free (Means slots root now entity [] left) (Costs slots root now entity [] left) (λ l. ItemsCost slots root now entity [] (Typed slots root [] left) l listed)
         (free_without left (left_none (lambda_depth left) (lambda_depth_among listed) none))
@@ -56,11 +73,11 @@ module _ (slots : Slots) (root : List ℕ) (now : MomentParts) (entity : Val) wh
 
     items_without : (left : Tree) (l : Val) (listed : Trees) → lambda_depth_among listed ≡ 0 → IsFree (ItemsCost slots root now entity [] (Typed slots root [] left) l listed)
     items_without left l no_trees none = λ n is. is
-    items_without left l (more_trees item more) none = λ n is.
-        let first : is.0 ≡ 0 = after_free (After (ItemAlone slots root now entity [] (Typed slots root [] left) item) (CompareGives ComparisonOperator.Eq l)) (Costs slots root now entity [] item)
+    items_without left l (more_trees tree more) none = λ n is.
+        let first : is.0 ≡ 0 = after_free (After (ItemAlone slots root now entity [] (Typed slots root [] left) tree) (CompareGives ComparisonOperator.Eq l)) (Costs slots root now entity [] tree)
         (OthersCost Quantifier.Any (ItemsCost slots root now entity [] (Typed slots root [] left) l more))
-        (free_without item (left_none (lambda_depth item) (lambda_depth_among more) none))
-        (λ w. others_free Quantifier.Any (ItemsCost slots root now entity [] (Typed slots root [] left) l more) w (items_without left l more (right_none (lambda_depth item) (lambda_depth_among more) none)))
+        (free_without tree (left_none (lambda_depth tree) (lambda_depth_among more) none))
+        (λ w. others_free Quantifier.Any (ItemsCost slots root now entity [] (Typed slots root [] left) l more) w (items_without left l more (right_none (lambda_depth tree) (lambda_depth_among more) none)))
         is.0 is.1 in
         let sum : n ≡ 0 + is.0 = is.2 in
         omega (arith, sum, first)

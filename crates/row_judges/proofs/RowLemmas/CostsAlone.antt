@@ -13,7 +13,7 @@ use Rattle.odata_signatures.specs.Typed.{Typed}
 use Rattle.odata_filter_operations.specs.CompareGives.{CompareGives}
 use Rattle.odata_filter_operations.specs.LeftFirst.{After}
 use Rattle.odata_filter_operations.specs.Outcome.{Outcome}
-use Rattle.odata_meaning.specs.Costs.{ArgumentsCost, CostAfter, Costs, CostsMore, ItemsCost, LambdaCosts, OthersCost, RightCosts, item_cost}
+use Rattle.odata_meaning.specs.Costs.{AmongCosts, ArgumentsCost, CostAfter, Costs, CostsMore, ItemsCost, LambdaCosts, OthersCost, RightCosts, item_cost}
 use Rattle.odata_meaning.specs.Environment.{Environment, bound_over, scope_of}
 use Rattle.odata_meaning.specs.Means.{Means}
 use Rattle.odata_meaning.specs.NameGives.{StepGives}
@@ -50,9 +50,10 @@ module _ (slots : Slots) (root : List ℕ) (now : MomentParts) (e f : Val) (Pass
         left_first environment left (λ l. Costs slots root now e environment right) (λ l. Costs slots root now f environment right) none.0 (costs_same environment left none.0)
         (ap Right (costs_same environment right none.1))
     costs_same environment (node start stop (in_path left path)) none =
-        let Right : (ℕ → Type 0) → Val → ℕ → Type 0 = λ X l. X in
-        left_first environment left (λ l. Costs slots root now e environment path) (λ l. Costs slots root now f environment path) none.0 (costs_same environment left none.0)
-        (ap Right (costs_same environment path none.1))
+        left_first environment left
+        (λ l. CostAfter (Means slots root now e environment path) (Costs slots root now e environment path) (AmongCosts (item_cost environment) l))
+        (λ l. CostAfter (Means slots root now f environment path) (Costs slots root now f environment path) (AmongCosts (item_cost environment) l)) none.0 (costs_same environment left none.0)
+        (fun_ext (λ (l : Val). left_first environment path (AmongCosts (item_cost environment) l) (AmongCosts (item_cost environment) l) none.1 (costs_same environment path none.1) refl))
     costs_same environment (node start stop (in_list left listed)) none =
         let L = Typed slots root (scope_of environment) left in
         left_first environment left (λ l. ItemsCost slots root now e environment L l listed) (λ l. ItemsCost slots root now f environment L l listed) none.0 (costs_same environment left none.0)

@@ -1,4 +1,4 @@
-use Rattle.std.proofs.Common.{Option, Ok, Err, Some, sym, subst}
+use Rattle.std.proofs.Common.{Option, Ok, Err, Some, refl, sym, subst}
 use Rattle.odata_eval.specs.declared.verdict.Verdict.{Verdict}
 use Rattle.row_judges.specs.RowCosts.{ReportsRowWithin}
 use Rattle.handle_calls.specs.RowCalls.{IsOutcomeAt}
@@ -12,9 +12,11 @@ returns-in-Some c filter now row most reported =
     (subst (ReportsRowWithin filter now row most) c.in-Ok.is reported)
 
 pub returns-in-None : goal.returns-in-None
-returns-in-None c filter now row most reported =
-    subst (λ (found : Option Verdict). ReportsRowWithin filter now row most (Ok found)) c.in-None.is
-    (subst (ReportsRowWithin filter now row most) c.in-Ok.is reported)
+returns-in-None c filter now row most reported = (
+  refl,
+  subst (λ (found : Option Verdict). ReportsRowWithin filter now row most (Ok found)) c.in-None.is
+      (subst (ReportsRowWithin filter now row most) c.in-Ok.is reported),
+)
 
 pub returns-in-Err : goal.returns-in-Err
 returns-in-Err c filter now row most reported =

@@ -9,7 +9,7 @@ returns-in-Ok c =
     record {
       outcome = Ok tally;
       text = run.kept.items;
-      right = subst (λ outcome. IsRunOver c.args.held.now c.args.judge.now.moment c.args.rows.now outcome run.kept.items) c.in-Ok.is c.run_over-outcome.ensures;
+      right = subst (λ outcome. IsRunOver c.args.held.now c.args.judge.now.moment c.args.judge.now.bound c.args.rows.now outcome run.kept.items) c.in-Ok.is c.run_over-outcome.ensures;
       keeps = refl;
       reports = subst (λ (text : List ℕ). ReportsTally tally text c.args.buffer.now c.report_tally.new.buffer c.report_tally.new.answer c.report_tally.result) c.deref.ensures.value c.report_tally.ensures;
     }

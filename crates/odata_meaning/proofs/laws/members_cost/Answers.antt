@@ -7,6 +7,7 @@ returns c = record {
   not_all = costs.not_all;
   within = costs.within;
   listed = costs.listed;
+  compared = costs.compared;
   of_none = costs.of_none;
   of_null = costs.of_null;
   fault_first = costs.fault_costs;
