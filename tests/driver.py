@@ -28,6 +28,7 @@ WORDS = {
     "collection": "a collection: the same",
     "devices": "lines, more after them, the manners of devices (tests/devices): what a run ends with, reads, writes, text",
     "logged": "the same by devices that log their calls: what a run ends with, and both logs",
+    "unfailing": "lines: what a run ends with over devices that cannot fail",
     "run_filter": "the same of the program's work, over what is held: the status, the order of calls, both streams; also "
     "`run_check`, `run_explain`, `run_collection` and, from standard input, `run_input`",
     "lines_of": "the same of a reader of lines: its memory, so many lines, its memory, the reads",

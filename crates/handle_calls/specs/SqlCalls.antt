@@ -8,6 +8,7 @@ use Rattle.odata_checked_filter.specs.Calls.{UsesNow}
 use Rattle.odata_checked_filter.specs.Filter.{Filter, tree_of_filter}
 use Rattle.odata_sql.specs.Conditions.{FaultsIt, IsItsCode, KeepsIt}
 use Rattle.odata_sql.specs.JsonText.{IsTextOf}
+use Rattle.odata_sql.specs.Nesting.{ExceedsLevels}
 use Rattle.odata_sql.specs.Refusals.{IsNulFree, IsTooDeep}
 use Rattle.odata_sql.specs.Translation.{CanFault, NeverFaults, Says, table_of}
 use Rattle.odata_sql.specs.declared.translation.Conditions.{Conditions}
@@ -47,6 +48,7 @@ pub record HasConditions
   pub fault : IfSome conditions.fault (λ s. Says filter now dialect (table_of filter storage) s FaultsIt)
   pub no_fault : IfNone conditions.fault (NeverFaults filter now)
   pub can_fault : IfSome conditions.fault (λ _. CanFault filter)
+  pub levels : ¬ ExceedsLevels filter.list.nodes
 
 -- the conditions of a filter over a table, by what follows the first line
 abbrev pub IsTableSql : Filter → Dialect → Bool → List ℕ → MomentParts → List ℕ → Type 0

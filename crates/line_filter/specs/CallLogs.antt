@@ -1,8 +1,10 @@
--- What devices report about their calls, and what a run makes of them. A call is a read, a write or a flush.
-use Rattle.std.specs.Prelude.{◌≡◌}
+-- What a device's log of its calls becomes with one more call, and what it says of a run. A call is a read, a write or a
+-- flush.
+use Rattle.std.specs.Prelude.{◌≡◌, ℕ, List, Option}
+use Rattle.std.specs.Io.KnownBytes.{IsAtEnd}
 use Rattle.line_filter.specs.declared.call_log.CallLog.{CallLog}
 
--- after one more call, which did its work
+-- the log after one more call, which did its work and was no flush
 abbrev pub after_work : CallLog → CallLog
 after_work CallLog.Unlogged = CallLog.Unlogged
 after_work CallLog.Unfailing = CallLog.Unfailing
@@ -11,7 +13,7 @@ after_work CallLog.Flushed = CallLog.After
 after_work CallLog.Failed = CallLog.After
 after_work CallLog.After = CallLog.After
 
--- after one more call, a flush that did its work
+-- the log after one more call, a flush that did its work
 abbrev pub after_flush : CallLog → CallLog
 after_flush CallLog.Unlogged = CallLog.Unlogged
 after_flush CallLog.Unfailing = CallLog.Unfailing
@@ -20,7 +22,7 @@ after_flush CallLog.Flushed = CallLog.After
 after_flush CallLog.Failed = CallLog.After
 after_flush CallLog.After = CallLog.After
 
--- after one more call, which failed; so no device that reports that it never fails has such a call
+-- the log after one more call, which failed; a device that never fails has no such call, since its log would change
 abbrev pub after_failure : CallLog → CallLog
 after_failure CallLog.Unlogged = CallLog.Unlogged
 after_failure CallLog.Unfailing = CallLog.Failed
@@ -29,7 +31,7 @@ after_failure CallLog.Flushed = CallLog.After
 after_failure CallLog.Failed = CallLog.After
 after_failure CallLog.After = CallLog.After
 
--- no call has failed and none was a flush, as far as it is reported
+-- as far as the log says, each call did its work and none was a flush
 abbrev pub IsWell : CallLog → Type 0
 IsWell CallLog.Unlogged = Unit {0}
 IsWell CallLog.Unfailing = Unit {0}
@@ -49,3 +51,11 @@ pub record FlushesLast (old new : CallLog) : Type 0 where
 -- The last call of a run failed; each call before it did its work, and none was a flush.
 pub record FailsLast (old new : CallLog) : Type 0 where
   pub failed : IsWell old → new ≡ after_failure old
+
+-- no call of such a device ever fails: each of its states reports so
+abbrev pub NeverFails : {D : Type 0} → (D → CallLog) → Type 0
+NeverFails calls = (device : _) → calls device ≡ CallLog.Unfailing
+
+-- a call of such a reader fails only where no byte is left of it
+abbrev pub FailsOnlyAtEnd : {R : Type 0} → (R → CallLog) → (R → Option (List ℕ)) → Type 0
+FailsOnlyAtEnd calls remaining = (reader : _) → calls reader ≡ CallLog.Failed → IsAtEnd (remaining reader)

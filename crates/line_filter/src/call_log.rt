@@ -2,25 +2,25 @@
 ghost use Rattle.std.specs.Prelude.{◌≡◌};
 ghost use Rattle.line_filter.specs.CallLogs.{after_work, after_flush, after_failure};
 
-/// A device's record of its calls so far. A call is a read, a write or a flush.
+/// A device's calls so far, in one word. A call is a read, a write or a flush.
 #[derive(Clone, Copy, Debug, PartialEq, Eq)]
 pub enum CallLog {
-    /// It reports nothing.
+    /// Nothing is logged.
     Unlogged,
-    /// None of its calls ever fails; of flushes nothing is reported.
+    /// Nothing is logged, since no call ever fails.
     Unfailing,
-    /// No call has failed, and none was a flush.
+    /// Each call did its work, and none was a flush.
     Well,
-    /// The last call was a flush, the first one, and no call has failed.
+    /// Each call did its work, and the last one alone was a flush.
     Flushed,
-    /// The last call has failed, the first one to do so, and none was a flush.
+    /// The last call failed; each call before it did its work, and none was a flush.
     Failed,
-    /// A call came after a flush or a failed one.
+    /// Calls went on after a flush or a failure.
     After,
 }
 
 impl CallLog {
-    /// Returns the calls with one more, which did its work.
+    /// Returns the log after one more call, which did its work and was no flush.
     pub fn worked(self) -> CallLog
         ensures { result ≡ after_work self }
     {
@@ -32,7 +32,7 @@ impl CallLog {
         }
     }
 
-    /// Returns the calls with one more, a flush that did its work.
+    /// Returns the log after one more call, a flush that did its work.
     pub fn flushed(self) -> CallLog
         ensures { result ≡ after_flush self }
     {
@@ -44,7 +44,7 @@ impl CallLog {
         }
     }
 
-    /// Returns the calls with one more, which failed.
+    /// Returns the log after one more call, which failed.
     pub fn failed(self) -> CallLog
         ensures { result ≡ after_failure self }
     {

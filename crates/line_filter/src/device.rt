@@ -1,12 +1,12 @@
 //! How devices are called, and what they report about their calls. Whatever is said of failed calls is said by this.
-ghost use Rattle.std.specs.Prelude.{◌≡◌, ◌<◌, ◌≤◌, [], length, IfOk, OnErr, OnOk};
+ghost use Rattle.std.specs.Prelude.{◌≡◌, ◌<◌, ◌≤◌, ℕ, List, [], Option, length, IfOk, OnErr, OnOk};
 ghost use Rattle.std.specs.Io.{ReadsAtMost, WritesAtMost};
 ghost use Rattle.std.specs.Io.KnownBytes.{Keeps, ReadConsumes, WriteAppends};
 ghost use Rattle.line_filter.specs.CallLogs.{after_work, after_flush, after_failure};
 ghost use Rattle.line_filter.specs.declared.call_log.CallLog.{CallLog};
 
 use super::call_log::CallLog;
-use std::io::{Read, Write};
+use std::io::Read;
 use thiserror::Error;
 
 /// A read failed.
@@ -39,11 +39,15 @@ pub trait Reads<R: Read> {
         ensures failed { OnErr result (calls reader.new ≡ after_failure (calls reader.old)) };
 }
 
-/// The way to write to a writer and flush it, and what it reports about its calls. Every error is a failure, an
-/// interrupted call too.
+/// The way to write to a writer and flush it, and what the writer reports of its bytes and its calls.
+///
+/// Every error is a failure, an interrupted call too.
 ///
 /// As with [`Reads`], what it reports must be the device's own record.
-pub trait Writes<W: Write> {
+pub trait Writes<W> {
+    // The bytes that the writer holds, where it reports them.
+    ghost contents: { W → Option (List ℕ) };
+
     // What the writer reports about its calls so far.
     ghost calls: { W → CallLog };
 
@@ -52,13 +56,13 @@ pub trait Writes<W: Write> {
         requires some { 0 < length bytes.now }
         ensures some { IfOk result (λ count. 0 < count) }
         ensures bound { WritesAtMost result bytes.now }
-        ensures bytes { WriteAppends (W.contents out.old) (W.contents out.new) result bytes.now }
+        ensures bytes { WriteAppends (contents out.old) (contents out.new) result bytes.now }
         ensures worked { OnOk result (calls out.new ≡ after_work (calls out.old)) }
         ensures failed { OnErr result (calls out.new ≡ after_failure (calls out.old)) };
 
     /// Calls `flush` once.
     fn flush(out: &mut W) -> Result<(), NotWritten>
-        ensures bytes { Keeps (W.contents out.old) (W.contents out.new) }
+        ensures bytes { Keeps (contents out.old) (contents out.new) }
         ensures flushed { OnOk result (calls out.new ≡ after_flush (calls out.old)) }
         ensures failed { OnErr result (calls out.new ≡ after_failure (calls out.old)) };
 }

@@ -15,7 +15,6 @@ use super::run_stop::RunStop;
 use super::tally::Tally;
 use itoa::Buffer;
 use std::alloc::Global;
-use std::io::Write;
 
 /// What the item of this number counts, or why the run stops at it.
 fn item_outcome<J: JudgeItem>(
@@ -33,7 +32,7 @@ fn item_outcome<J: JudgeItem>(
 
 /// Judges the items one by one up to the first fault. The end of the kept text may be held back. `Err` is a write that
 /// failed; any other stop comes within `Ok`.
-fn judge_items<J: JudgeItem, W: Write, T: Writes<W>>(
+fn judge_items<J: JudgeItem, W, T: Writes<W>>(
     judge: &J,
     items: &[J::Item],
     out: &mut W,
@@ -41,11 +40,11 @@ fn judge_items<J: JudgeItem, W: Write, T: Writes<W>>(
 ) -> Result<Result<Tally, RunStop<J::Fault>>, NotWritten>
     requires { held.old.items ≡ [] }
     ensures ok { IfOk result (λ outcome. (text : List ℕ)
-        × WritesBut (W.contents out.old) (W.contents out.new) held.new.items text
+        × WritesBut (T.contents out.old) (T.contents out.new) held.new.items text
         × GoesOver (indexed_items (J.says judge.now) items.now) text outcome) }
     ensures of_item { IfOk result (λ outcome. IfErr outcome IsOfItem) }
     ensures err { OnErr result
-        (Writes (W.contents out.old) (W.contents out.new) (StopsWithin (indexed_items (J.says judge.now) items.now))) }
+        (Writes (T.contents out.old) (T.contents out.new) (StopsWithin (indexed_items (J.says judge.now) items.now))) }
     ensures well { OnOk result (StaysWell (T.calls out.old) (T.calls out.new)) }
     ensures failed { OnErr result (FailsLast (T.calls out.old) (T.calls out.new)) }
 {
@@ -68,17 +67,17 @@ fn judge_items<J: JudgeItem, W: Write, T: Writes<W>>(
 }
 
 /// Judges the items up to the first fault, and writes the indexes of the kept ones. `Err` is a write that failed.
-pub fn write_kept_indexes<J: JudgeItem, W: Write, T: Writes<W>>(
+pub fn write_kept_indexes<J: JudgeItem, W, T: Writes<W>>(
     alloc: Global,
     judge: &J,
     items: &[J::Item],
     out: &mut W,
 ) -> Result<Result<Tally, RunStop<J::Fault>>, NotWritten>
-    ensures ok { IfOk result (λ outcome. Writes (W.contents out.old) (W.contents out.new)
+    ensures ok { IfOk result (λ outcome. Writes (T.contents out.old) (T.contents out.new)
         (λ text. GoesOver (indexed_items (J.says judge.now) items.now) text outcome)) }
     ensures of_item { IfOk result (λ outcome. IfErr outcome IsOfItem) }
     ensures err { OnErr result
-        (Writes (W.contents out.old) (W.contents out.new) (StopsWithin (indexed_items (J.says judge.now) items.now))) }
+        (Writes (T.contents out.old) (T.contents out.new) (StopsWithin (indexed_items (J.says judge.now) items.now))) }
     ensures well { OnOk result (StaysWell (T.calls out.old) (T.calls out.new)) }
     ensures failed { OnErr result (FailsLast (T.calls out.old) (T.calls out.new)) }
 {

@@ -12,19 +12,18 @@ use super::judge::Judgment;
 use super::output::keep;
 use super::run_stop::RunStop;
 use super::tally::Tally;
-use std::io::Write;
 
 /// Holds the text and LF back as [`keep`] does. It is not inlined, so that what judges the items is.
 #[inline(never)]
-fn keep_item<W: Write, T: Writes<W>>(
+fn keep_item<W, T: Writes<W>>(
     out: &mut W,
     held: &mut Vec<u8>,
     text: &[u8],
 ) -> Result<(), NotWritten>
     ensures ok { OnOk result
-        (WritesBut (W.contents out.old) (W.contents out.new) held.new.items (held.old.items ++ text_of_line text.now)) }
+        (WritesBut (T.contents out.old) (T.contents out.new) held.new.items (held.old.items ++ text_of_line text.now)) }
     ensures err { OnErr result
-        (WritesFront (W.contents out.old) (W.contents out.new) (held.old.items ++ text_of_line text.now)) }
+        (WritesFront (T.contents out.old) (T.contents out.new) (held.old.items ++ text_of_line text.now)) }
     ensures well { OnOk result (StaysWell (T.calls out.old) (T.calls out.new)) }
     ensures failed { OnErr result (FailsLast (T.calls out.old) (T.calls out.new)) }
 {
@@ -32,17 +31,17 @@ fn keep_item<W: Write, T: Writes<W>>(
 }
 
 /// Writes the text and then LF, where its item is kept.
-pub fn keep_where<W: Write, T: Writes<W>>(
+pub fn keep_where<W, T: Writes<W>>(
     is_kept: bool,
     text: &[u8],
     out: &mut W,
     held: &mut Vec<u8>,
 ) -> Result<(), NotWritten>
-    ensures ok { OnOk result (WritesBut (W.contents out.old) (W.contents out.new) held.new.items
+    ensures ok { OnOk result (WritesBut (T.contents out.old) (T.contents out.new) held.new.items
         (held.old.items ++ text_where is_kept (text_of_line text.now))) }
     ensures kept { OnErr result (is_kept ≡ true) }
     ensures err { OnErr result
-        (WritesFront (W.contents out.old) (W.contents out.new) (held.old.items ++ text_of_line text.now)) }
+        (WritesFront (T.contents out.old) (T.contents out.new) (held.old.items ++ text_of_line text.now)) }
     ensures well { OnOk result (StaysWell (T.calls out.old) (T.calls out.new)) }
     ensures failed { OnErr result (FailsLast (T.calls out.old) (T.calls out.new)) }
 {

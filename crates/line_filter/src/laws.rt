@@ -1,13 +1,17 @@
 //! Laws of readers, writers and judged lines, as the contracts of functions that do nothing.
 ghost use Rattle.std.specs.Prelude.{◌≡◌, ℕ, List, Some};
 ghost use Rattle.line_filter.specs.declared.tally.Tally.{Tally as TallyModel};
+ghost use Rattle.line_filter.specs.CallLogs.{NeverFails};
 ghost use Rattle.line_filter.specs.Kept.{Filters, LineClass, StopsAt};
 ghost use Rattle.line_filter.specs.LineItems.{IsFoundOf, lines};
 ghost use Rattle.line_filter.specs.Once.{IsFaulty, JudgesItemsOnce, JudgesOnce, kind_found};
 ghost use Rattle.line_filter.specs.ItemIndexes.{indexed_items};
 
+use super::device::{Reads, Writes};
 use super::judge::{Judge, SaysOfItems};
-use std::io::{Read, Write};
+use super::logged::Logged;
+use super::strategies::{ByRecord, Unfailing, Unlogged};
+use std::io::{Read, Sink, Write};
 
 /// A slice of bytes reports, as a reader, what remains of it: all its bytes. A vector of bytes reports, as a writer,
 /// what it holds. So what [`filter_reader`](super::filter_reader) says of readers and writers that report their bytes
@@ -15,6 +19,16 @@ use std::io::{Read, Write};
 pub fn slices_report_their_bytes(bytes: &[u8], out: &Vec<u8>)
     ensures reader { ⟦<&'static [u8] as Read>⟧.remaining bytes.entry ≡ Some bytes.now }
     ensures writer { ⟦<Vec<u8> as Write>⟧.contents out.now ≡ Some out.now.items }
+{}
+
+/// A law: strategies report of their devices what those are.
+///
+/// [`Unlogged`] and [`ByRecord`] report the bytes that the writer reports. Devices of [`Unfailing`] never fail.
+pub fn strategies_report_their_devices<W: Write>(out: &W, logged: &Logged<W>)
+    ensures unlogged { ⟦<Unlogged as Writes<W>>⟧.contents out.now ≡ W.contents out.now }
+    ensures by_record { ⟦<ByRecord as Writes<Logged<W>>>⟧.contents logged.now ≡ W.contents logged.now.device }
+    ensures reader { NeverFails ⟦<Unfailing as Reads<&'static [u8]>>⟧.calls }
+    ensures writer { NeverFails ⟦<Unfailing as Writes<Sink>>⟧.calls }
 {}
 
 /// At most one line of an input is the first at fault. That is where the judge says judgments of one kind of each line;

@@ -12,6 +12,7 @@
 
 mod buffer;
 mod call_log;
+mod called;
 mod device;
 mod item_indexes;
 mod item_outcome;
@@ -31,9 +32,12 @@ mod stream;
 mod tally;
 
 pub use call_log::CallLog;
+pub use called::{Called, Input, Output, Through};
 pub use device::{NotRead, NotWritten, Reads, Writes};
 pub use judge::{Judge, JudgeItem, Judgment, SaysOfItems};
-pub use laws::{items_stop_once, lines_stop_once, slices_report_their_bytes};
+pub use laws::{
+    items_stop_once, lines_stop_once, slices_report_their_bytes, strategies_report_their_devices,
+};
 pub use line_reader::{LineFault, LineReader};
 pub use line_runs::{filter_items, filter_reader};
 pub use lines_in_memory::filter_bytes;

@@ -17,15 +17,15 @@ use super::run_stop::RunStop;
 use super::stream::write_kept_stream;
 use super::tally::Tally;
 use std::alloc::Global;
-use std::io::{Read, Write};
+use std::io::Read;
 
 /// What a run returns once its items have been judged.
-fn finish<F: Drop, W: Write, T: Writes<W>>(
+fn finish<F: Drop, W, T: Writes<W>>(
     outcome: Result<Tally, RunStop<F>>,
     out: &mut W,
 ) -> Result<Tally, RunStop<F>>
     ensures answer { Ends outcome result }
-    ensures kept { Keeps (W.contents out.old) (W.contents out.new) }
+    ensures kept { Keeps (T.contents out.old) (T.contents out.new) }
     ensures calls { Closes outcome result (T.calls out.old) (T.calls out.new) }
 {
     let tally = outcome?;
@@ -45,17 +45,17 @@ fn finish<F: Drop, W: Write, T: Writes<W>>(
 ///
 /// `S` and `T` say how the devices are called, and what they report of it. A failure is reported only if the device's
 /// last call failed, and with the number of the line that did not come.
-pub fn filter_reader<R: Read, S: Reads<R>, J: Judge, W: Write, T: Writes<W>>(
+pub fn filter_reader<R: Read, S: Reads<R>, J: Judge, W, T: Writes<W>>(
     alloc: Global,
     judge: &mut J,
     reader: &mut LineReader<R>,
     out: &mut W,
 ) -> Result<Tally, RunStop<J::Fault>>
     ensures filters { IfOk result (λ tally. IfSome (left_of R.remaining reader.old) (λ bytes.
-        Writes (W.contents out.old) (W.contents out.new)
+        Writes (T.contents out.old) (T.contents out.new)
         (λ text. Filters (lines (J.says judge.old) bytes) text tally))) }
     ensures stops { IfErr result (λ stop. IfSome (left_of R.remaining reader.old) (λ bytes.
-        Writes (W.contents out.old) (W.contents out.new) (λ text. StopsWith (lines (J.says judge.old) bytes)
+        Writes (T.contents out.old) (T.contents out.new) (λ text. StopsWith (lines (J.says judge.old) bytes)
         (LacksLine (J.says judge.old) bytes reader.new.waiting (R.remaining reader.new.reader)) text stop))) }
     ensures ended { OnOk result (IsOver reader.new) }
     ensures reads { MatchResult result (λ tally. StaysWell (S.calls reader.old.reader) (S.calls reader.new.reader))
@@ -75,15 +75,15 @@ pub fn filter_reader<R: Read, S: Reads<R>, J: Judge, W: Write, T: Writes<W>>(
 ///
 /// The first faulty item ends the run with `Fault`, whose number is the item's index plus one. `Write` reports a write
 /// that fails or takes no byte, and a failed flush. Up to 65,536 bytes are held back before they are written.
-pub fn filter_items<J: JudgeItem, W: Write, T: Writes<W>>(
+pub fn filter_items<J: JudgeItem, W, T: Writes<W>>(
     alloc: Global,
     judge: &J,
     items: &[J::Item],
     out: &mut W,
 ) -> Result<Tally, RunStop<J::Fault>>
-    ensures filters { IfOk result (λ tally. Writes (W.contents out.old) (W.contents out.new)
+    ensures filters { IfOk result (λ tally. Writes (T.contents out.old) (T.contents out.new)
         (λ text. Filters (indexed_items (J.says judge.now) items.now) text tally)) }
-    ensures stops { IfErr result (λ stop. Writes (W.contents out.old) (W.contents out.new)
+    ensures stops { IfErr result (λ stop. Writes (T.contents out.old) (T.contents out.new)
         (λ text. StopsHeld (indexed_items (J.says judge.now) items.now) text stop)) }
     ensures writes { MatchResult result (λ tally. FlushesLast (T.calls out.old) (T.calls out.new))
         (λ stop. WritesUntil (T.calls out.old) (T.calls out.new) stop) }

@@ -7,16 +7,15 @@ ghost use Rattle.line_filter.specs.private.HeldBack.{WritesBut};
 
 use super::device::{NotWritten, Writes};
 use std::alloc::AllocError;
-use std::io::Write;
 
 /// How many bytes are held back before they are written together.
 const HELD_BACK: usize = 65_536;
 
 /// Writes all the bytes, by as many calls as the writer needs. Unlike `write_all`, it takes every error as a failure,
 /// an interrupted write too, and calls nothing after it.
-pub fn write_out<W: Write, T: Writes<W>>(out: &mut W, bytes: &[u8]) -> Result<(), NotWritten>
-    ensures ok { OnOk result (Appends (W.contents out.old) (W.contents out.new) bytes.now) }
-    ensures err { OnErr result (WritesFront (W.contents out.old) (W.contents out.new) bytes.now) }
+pub fn write_out<W, T: Writes<W>>(out: &mut W, bytes: &[u8]) -> Result<(), NotWritten>
+    ensures ok { OnOk result (Appends (T.contents out.old) (T.contents out.new) bytes.now) }
+    ensures err { OnErr result (WritesFront (T.contents out.old) (T.contents out.new) bytes.now) }
     ensures some { OnErr result (0 < length bytes.now) }
     ensures well { OnOk result (StaysWell (T.calls out.old) (T.calls out.new)) }
     ensures failed { OnErr result (FailsLast (T.calls out.old) (T.calls out.new)) }
@@ -30,10 +29,10 @@ pub fn write_out<W: Write, T: Writes<W>>(out: &mut W, bytes: &[u8]) -> Result<()
 }
 
 /// Writes what is held back.
-pub fn release<W: Write, T: Writes<W>>(out: &mut W, held: &mut Vec<u8>) -> Result<(), NotWritten>
-    ensures ok { OnOk result (Appends (W.contents out.old) (W.contents out.new) held.old.items) }
+pub fn release<W, T: Writes<W>>(out: &mut W, held: &mut Vec<u8>) -> Result<(), NotWritten>
+    ensures ok { OnOk result (Appends (T.contents out.old) (T.contents out.new) held.old.items) }
     ensures none_held { OnOk result (held.new.items ≡ []) }
-    ensures err { OnErr result (WritesFront (W.contents out.old) (W.contents out.new) held.old.items) }
+    ensures err { OnErr result (WritesFront (T.contents out.old) (T.contents out.new) held.old.items) }
     ensures some { OnErr result (0 < length held.old.items) }
     ensures well { OnOk result (StaysWell (T.calls out.old) (T.calls out.new)) }
     ensures failed { OnErr result (FailsLast (T.calls out.old) (T.calls out.new)) }
@@ -44,9 +43,9 @@ pub fn release<W: Write, T: Writes<W>>(out: &mut W, held: &mut Vec<u8>) -> Resul
 }
 
 /// Writes the line and then LF.
-fn write_line<W: Write, T: Writes<W>>(out: &mut W, line: &[u8]) -> Result<(), NotWritten>
-    ensures ok { OnOk result (Appends (W.contents out.old) (W.contents out.new) (text_of_line line.now)) }
-    ensures err { OnErr result (WritesFront (W.contents out.old) (W.contents out.new) (text_of_line line.now)) }
+fn write_line<W, T: Writes<W>>(out: &mut W, line: &[u8]) -> Result<(), NotWritten>
+    ensures ok { OnOk result (Appends (T.contents out.old) (T.contents out.new) (text_of_line line.now)) }
+    ensures err { OnErr result (WritesFront (T.contents out.old) (T.contents out.new) (text_of_line line.now)) }
     ensures well { OnOk result (StaysWell (T.calls out.old) (T.calls out.new)) }
     ensures failed { OnErr result (FailsLast (T.calls out.old) (T.calls out.new)) }
 {
@@ -55,9 +54,9 @@ fn write_line<W: Write, T: Writes<W>>(out: &mut W, line: &[u8]) -> Result<(), No
 }
 
 /// Writes what is held back, where it is more than is held back.
-fn release_full<W: Write, T: Writes<W>>(out: &mut W, held: &mut Vec<u8>) -> Result<(), NotWritten>
-    ensures ok { OnOk result (WritesBut (W.contents out.old) (W.contents out.new) held.new.items held.old.items) }
-    ensures err { OnErr result (WritesFront (W.contents out.old) (W.contents out.new) held.old.items) }
+fn release_full<W, T: Writes<W>>(out: &mut W, held: &mut Vec<u8>) -> Result<(), NotWritten>
+    ensures ok { OnOk result (WritesBut (T.contents out.old) (T.contents out.new) held.new.items held.old.items) }
+    ensures err { OnErr result (WritesFront (T.contents out.old) (T.contents out.new) held.old.items) }
     ensures well { OnOk result (StaysWell (T.calls out.old) (T.calls out.new)) }
     ensures failed { OnErr result (FailsLast (T.calls out.old) (T.calls out.new)) }
 {
@@ -86,15 +85,11 @@ pub(crate) fn put_line(line: &[u8], out: &mut Vec<u8>) -> Result<(), AllocError>
 
 /// Holds the line and LF back after what is held, or writes all where an allocation fails.
 #[inline(always)]
-pub fn keep<W: Write, T: Writes<W>>(
-    out: &mut W,
-    held: &mut Vec<u8>,
-    line: &[u8],
-) -> Result<(), NotWritten>
+pub fn keep<W, T: Writes<W>>(out: &mut W, held: &mut Vec<u8>, line: &[u8]) -> Result<(), NotWritten>
     ensures ok { OnOk result
-        (WritesBut (W.contents out.old) (W.contents out.new) held.new.items (held.old.items ++ text_of_line line.now)) }
+        (WritesBut (T.contents out.old) (T.contents out.new) held.new.items (held.old.items ++ text_of_line line.now)) }
     ensures err { OnErr result
-        (WritesFront (W.contents out.old) (W.contents out.new) (held.old.items ++ text_of_line line.now)) }
+        (WritesFront (T.contents out.old) (T.contents out.new) (held.old.items ++ text_of_line line.now)) }
     ensures well { OnOk result (StaysWell (T.calls out.old) (T.calls out.new)) }
     ensures failed { OnErr result (FailsLast (T.calls out.old) (T.calls out.new)) }
 {

@@ -27,6 +27,8 @@ impl<R: Read> Reads<R> for Unlogged {
 }
 
 impl<W: Write> Writes<W> for Unlogged {
+    ghost contents = { W.contents };
+
     ghost calls = { λ _. CallLog.Unlogged };
 
     fn write(out: &mut W, bytes: &[u8]) -> Result<usize, NotWritten> {
@@ -62,6 +64,8 @@ impl<'b> Reads<&'b [u8]> for Unfailing {
 }
 
 impl Writes<Sink> for Unfailing {
+    ghost contents = { ⟦<Sink as Write>⟧.contents };
+
     ghost calls = { λ _. CallLog.Unfailing };
 
     fn write(out: &mut Sink, bytes: &[u8]) -> Result<usize, NotWritten> {
@@ -97,6 +101,8 @@ impl<R: Read> Reads<Logged<R>> for ByRecord {
 }
 
 impl<W: Write> Writes<Logged<W>> for ByRecord {
+    ghost contents = { λ w. W.contents w.device };
+
     ghost calls = { λ w. w.calls };
 
     fn write(out: &mut Logged<W>, bytes: &[u8]) -> Result<usize, NotWritten> {

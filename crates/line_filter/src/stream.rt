@@ -20,18 +20,18 @@ use super::output::{keep, release};
 use super::run_stop::RunStop;
 use super::tally::Tally;
 use std::alloc::Global;
-use std::io::{Read, Write};
+use std::io::Read;
 
 /// Goes to the next line, if there is one. Before each read what is held back is written.
-fn next_line<R: Read, S: Reads<R>, W: Write, T: Writes<W>>(
+fn next_line<R: Read, S: Reads<R>, W, T: Writes<W>>(
     reader: &mut LineReader<R>,
     out: &mut W,
     held: &mut Vec<u8>,
 ) -> Result<Next, NotWritten>
     ensures given { IfOk result (Gives R.remaining reader.old reader.new) }
     ensures again { IfOk result (GivesAgain reader.old) }
-    ensures ok { OnOk result (WritesBut (W.contents out.old) (W.contents out.new) held.new.items held.old.items) }
-    ensures err { OnErr result (WritesFront (W.contents out.old) (W.contents out.new) held.old.items) }
+    ensures ok { OnOk result (WritesBut (T.contents out.old) (T.contents out.new) held.new.items held.old.items) }
+    ensures err { OnErr result (WritesFront (T.contents out.old) (T.contents out.new) held.old.items) }
     ensures none_held { OnOk result (IsUnread reader.new → (IsUnread reader.old → held.old.items ≡ [])
         → held.new.items ≡ []) }
     ensures reads { OnOk result (ReadsOn S.calls R.remaining reader.old reader.new) }
@@ -70,7 +70,7 @@ fn stop_at<F>(line: u64, fault: F) -> RunStop<F>
 
 /// Judges the lines one by one as they come, up to the first fault. The end of the kept text may be held back. `Err` is
 /// a write that failed; any other stop comes within `Ok`.
-fn judge_stream<R: Read, S: Reads<R>, J: Judge, W: Write, T: Writes<W>>(
+fn judge_stream<R: Read, S: Reads<R>, J: Judge, W, T: Writes<W>>(
     judge: &mut J,
     reader: &mut LineReader<R>,
     out: &mut W,
@@ -79,11 +79,11 @@ fn judge_stream<R: Read, S: Reads<R>, J: Judge, W: Write, T: Writes<W>>(
     requires none_held { held.old.items ≡ [] }
     requires few { bytes_to_come reader.old < 2 ^ 64 - 1 }
     ensures ok { IfOk result (λ outcome. IfSome (left_of R.remaining reader.old) (λ bytes. (text : List ℕ)
-        × WritesBut (W.contents out.old) (W.contents out.new) held.new.items text
+        × WritesBut (T.contents out.old) (T.contents out.new) held.new.items text
         × GoesOn (J.says judge.old) bytes reader.new.waiting (R.remaining reader.new.reader) text outcome)) }
     ensures ended { IfOk result (λ outcome. OnOk outcome (IsOver reader.new)) }
     ensures err { OnErr result (IfSome (left_of R.remaining reader.old) (λ bytes.
-        Writes (W.contents out.old) (W.contents out.new) (StopsWithin (lines (J.says judge.old) bytes)))) }
+        Writes (T.contents out.old) (T.contents out.new) (StopsWithin (lines (J.says judge.old) bytes)))) }
     ensures reads { IfOk result (λ outcome. MatchResult outcome
         (λ tally. StaysWell (S.calls reader.old.reader) (S.calls reader.new.reader))
         (λ stop. ReadsUntil S.calls R.remaining reader.old reader.new stop)) }
@@ -134,18 +134,18 @@ fn judge_stream<R: Read, S: Reads<R>, J: Judge, W: Write, T: Writes<W>>(
 }
 
 /// Judges the lines as they come up to the first fault, and writes the kept ones. `Err` is a write that failed.
-pub fn write_kept_stream<R: Read, S: Reads<R>, J: Judge, W: Write, T: Writes<W>>(
+pub fn write_kept_stream<R: Read, S: Reads<R>, J: Judge, W, T: Writes<W>>(
     alloc: Global,
     judge: &mut J,
     reader: &mut LineReader<R>,
     out: &mut W,
 ) -> Result<Result<Tally, RunStop<J::Fault>>, NotWritten>
     ensures ok { IfOk result (λ outcome. IfSome (left_of R.remaining reader.old) (λ bytes.
-        Writes (W.contents out.old) (W.contents out.new)
+        Writes (T.contents out.old) (T.contents out.new)
         (λ text. GoesOn (J.says judge.old) bytes reader.new.waiting (R.remaining reader.new.reader) text outcome))) }
     ensures ended { IfOk result (λ outcome. OnOk outcome (IsOver reader.new)) }
     ensures err { OnErr result (IfSome (left_of R.remaining reader.old) (λ bytes.
-        Writes (W.contents out.old) (W.contents out.new) (StopsWithin (lines (J.says judge.old) bytes)))) }
+        Writes (T.contents out.old) (T.contents out.new) (StopsWithin (lines (J.says judge.old) bytes)))) }
     ensures reads { IfOk result (λ outcome. MatchResult outcome
         (λ tally. StaysWell (S.calls reader.old.reader) (S.calls reader.new.reader))
         (λ stop. ReadsUntil S.calls R.remaining reader.old reader.new stop)) }

@@ -1,9 +1,12 @@
 -- What a fault of a run over rows says of its devices.
-use Rattle.std.specs.Prelude.{ℕ, List, Option, IsSomeAnd}
+use Rattle.std.specs.Prelude.{◌≡◌, ◌≢◌, ◌==◌, ◌≤◌, ℕ, ◌+◌, List, ◌++◌, All, Option, IsSomeAnd, count_by, length}
 use Rattle.edm_values.specs.MomentParts.{MomentParts}
 use Rattle.line_filter.specs.declared.call_log.CallLog.{CallLog}
+use Rattle.line_filter.specs.declared.tally.Tally.{Tally}
 use Rattle.line_filter.specs.CallLogs.{StaysWell, FailsLast}
-use Rattle.line_filter.specs.Kept.{StopsWith}
+use Rattle.line_filter.specs.Kept.{Passes, StopsWith}
+use Rattle.line_filter.specs.LineItems.{line_sieve}
+use Rattle.line_filter.specs.Lines.{lines_of, longest_line, text_of_lines}
 use Rattle.line_filter.specs.LineSource.{LineSource}
 use Rattle.line_filter.specs.LineStreams.{LacksLine, ReadWell, WhyUnread}
 use Rattle.odata_checked_filter.specs.Filter.{Filter}
@@ -19,11 +22,24 @@ StopsLines filter now bytes waiting known text fault =
     IsSomeAnd (run_stop fault)
     (StopsWith (rows_of filter now bytes) (LacksLine (JudgesRow filter now) bytes waiting known) text)
 
--- the line of that number did not come, of a reader of which nothing is seen any more: some bytes of the line waited,
--- and it may have had more
-abbrev pub LacksRow : Filter → MomentParts → List ℕ → List ℕ → ℕ → Type 0
-LacksRow filter now bytes text line =
-    (waiting : List ℕ) × (known : Option (List ℕ)) × LacksLine (JudgesRow filter now) bytes waiting known text line
+-- A read of the line of this number failed. What came of the bytes are the lines before it, each with its LF, and then
+-- the beginning of that line, which has none and is not too long; the rest was not read. None of those lines is at
+-- fault, and the text is that of the kept ones.
+pub record LacksRow (filter : Filter) (now : MomentParts) (bytes text : List ℕ) (line : ℕ) : Type 0 where
+  pub before : List (List ℕ)
+  pub begun : List ℕ
+  pub rest : List ℕ
+  pub tally : Tally
+  pub came : bytes ≡ text_of_lines before ++ (begun ++ rest)
+  pub lines : lines_of bytes ≡ before ++ lines_of (begun ++ rest)
+  pub unended : All (λ b. b ≢ 10) begun
+  pub short : length begun ≤ longest_line
+  pub counted : line ≡ length before + 1
+  pub passes : Passes (line_sieve (JudgesRow filter now)) before text tally
+
+-- the line after so many LFs, counted from 1
+abbrev pub line_after : List ℕ → ℕ
+line_after bytes = count_by (λ b. b == 10) bytes + 1
 
 -- which reads a run made before this fault: Read says why no more was read, and before any other each did its work
 abbrev pub ReadsUntilFault :

@@ -28,7 +28,10 @@ pub use fault_number::{FaultKind, Numbered, fault_name, refusal_span, row_fault_
 pub use filter::{filter_lines, filter_lines_with, filter_slice};
 pub use headline::{canonical_texts_keep_rows, filters_keep_what_is_true};
 pub use laws::{collections_stop_once, rows_stop_once, unfailing_devices_never_fail};
-pub use line_filter::{ByRecord, CallLog, LineFault, LineReader, Logged, Reads, Tally, Writes};
+pub use line_filter::{
+    ByRecord, CallLog, Called, Input, LineFault, LineReader, Logged, NotRead, NotWritten, Output,
+    Reads, Tally, Through, Unfailing, Unlogged, Writes,
+};
 pub use row_judges::{
     BadRow, BoundedJudge, FilterRows, judge_row, row_layout_of, rows_are_reported_once,
 };

@@ -7,11 +7,14 @@ use crate::question::{Held, Question};
 use crate::runs::push_ended;
 use edm_values::Moment;
 use odata_filter::command_line::{Plan, Verb};
-use odata_filter::{ByRecord, LineFault, LineReader, Logged, filter_lines, filter_lines_with, run};
+use odata_filter::{
+    ByRecord, Called, LineFault, LineReader, Logged, Unfailing, filter_lines, filter_lines_with,
+    run,
+};
 use odata_typing::Checked;
 use std::alloc::{AllocError, Global};
 use std::io;
-use std::io::{Chain, Read, Repeat, Take, Write};
+use std::io::{Chain, Read, Repeat, Sink, Take, Write};
 
 /// A text, another one after it, and blanks, in the manner of a device.
 type Rows<'b> = Giving<Chain<Chain<&'b [u8], &'b [u8]>, Take<Repeat>>>;
@@ -104,6 +107,21 @@ pub(crate) fn push_logged(
     push_logged_run(out, checked, now, &mut lines, &mut writer)?;
     write!(out, ", {:?}, {:?}", lines.reader().calls(), writer.calls())?;
     push_taken(out, alloc, &device)
+}
+
+/// Appends what a run of a filter ends with over devices that cannot fail: bytes in memory, and a writer that keeps
+/// nothing.
+pub(crate) fn push_unfailing(
+    out: &mut String,
+    alloc: Global,
+    checked: &Checked<'_>,
+    now: &Moment,
+    question: &Question<'_>,
+) -> Result<(), AllocError> {
+    let rows: Called<&[u8], Unfailing> = Called::new(question.bytes);
+    let mut written: Called<Sink, Unfailing> = Called::new(io::sink());
+    let ended = filter_lines(alloc, checked, now, rows, &mut written);
+    push_ended(out, &ended)
 }
 
 /// The plan of a run over what is held.

@@ -54,7 +54,9 @@ fn push_of_filter(
         "nodes" => push_nodes(out, checked),
         "depth" => write!(out, "{}", checked.lambda_depth()),
         "outcome" | "expanded" | "cost" => push_on_row(out, alloc, checked, question),
-        "lines" | "collection" | "devices" | "logged" => push_run_of(out, alloc, checked, question),
+        "lines" | "collection" | "devices" | "logged" | "unfailing" => push_run_of(
+            out, alloc, checked, question,
+        ),
         _ => out.push_str("no such question"),
     }
 }

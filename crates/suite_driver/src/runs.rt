@@ -1,5 +1,5 @@
 //! Runs over lines that a reader gives and over a collection, into a buffer that is allocated before.
-use crate::device_runs::{push_devices, push_logged};
+use crate::device_runs::{push_devices, push_logged, push_unfailing};
 use crate::moments::moment_of;
 use crate::question::Question;
 use edm_values::Moment;
@@ -54,6 +54,7 @@ pub(crate) fn push_run_of(
         Some(now) => match question.word {
             "devices" => push_devices(out, alloc, checked, now, question),
             "logged" => push_logged(out, alloc, checked, now, question),
+            "unfailing" => push_unfailing(out, alloc, checked, now, question),
             _ => push_run_at(out, alloc, checked, now, question),
         },
         None => out.push_str("no moment"),

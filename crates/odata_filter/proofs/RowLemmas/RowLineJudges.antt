@@ -49,7 +49,22 @@ module _ (f : Filter) (m : MomentParts) (waiting : List ℕ) (known : Option (Li
   lack_known : (left old new : Option (List ℕ)) (line : ℕ) → IfSome left (λ bytes. Writes old new (λ text. StopsLines f m bytes waiting known text (RunFault.Read line)))
       → IfSome left (λ bytes. Writes old new (λ text. LacksRow f m bytes text line))
   lack_known None old new line stops = tt
-  lack_known (Some bytes) old new line (text, appends, lacks) = (text, appends, (waiting, known, lacks))
+  lack_known (Some bytes) old new line (text, appends, lacks) = (
+    text,
+    appends,
+    record {
+      before = lacks.before;
+      begun = waiting;
+      rest = lacks.rest;
+      tally = lacks.tally;
+      came = lacks.came;
+      lines = lacks.lines;
+      unended = lacks.unended;
+      short = lacks.short;
+      counted = lacks.counted;
+      passes = lacks.passes;
+    },
+  )
 
   -- the line that a read left out
   pub lines_lack : (left remaining old new : Option (List ℕ)) (answer : Result Tally RunFault) (line : ℕ) → left ≡ remaining → answer ≡ Err (RunFault.Read line)

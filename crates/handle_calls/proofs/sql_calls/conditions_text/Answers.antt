@@ -9,4 +9,5 @@ returns-in-Ok-conditions_json c = record {
   fault = c.in-Ok.ensures.fault;
   no_fault = c.in-Ok.ensures.no_fault;
   can_fault = c.in-Ok.ensures.can_fault;
+  levels = c.in-Ok.ensures.levels;
 }

@@ -26,7 +26,7 @@ loop-fault-init g c = (
   omega arith,
   omega arith,
   SaysTheSame-refl (g.J.Judge.says c.args.judge.now),
-  HasCome-none (g.J.Judge.says c.args.judge.now) (left_of g.R.Read.remaining c.args.reader.now) _ (g.W.Write.contents c.args.out.now) c.args.held.now.items c.requires.none_held,
+  HasCome-none (g.J.Judge.says c.args.judge.now) (left_of g.R.Read.remaining c.args.reader.now) _ (g.T.Writes.contents c.args.out.now) c.args.held.now.items c.requires.none_held,
   reads_well_refl g.S.Reads.calls g.R.Read.remaining c.args.reader.now,
   stays_well_refl (g.T.Writes.calls c.args.out.now),
   λ is. c.requires.none_held,
@@ -35,11 +35,11 @@ loop-fault-init g c = (
 pub returns-in_err-next_line-clause-err : goal.returns-in_err-next_line-clause-err
 returns-in_err-next_line-clause-err g c =
     let i = c.loop-fault.invariant in
-    let u = g.W.Write.contents c.args.out.now in
-    let v = g.W.Write.contents c.loop-fault.out in
+    let u = g.T.Writes.contents c.args.out.now in
+    let v = g.T.Writes.contents c.loop-fault.out in
     OnErr-from c.from_residual.result _
     (HasCome-unwritten (g.J.Judge.says c.args.judge.now) (left_of g.R.Read.remaining c.args.reader.now) (left_of g.R.Read.remaining c.loop-fault.reader) (IsOver c.loop-fault.reader → ⊥)
-    u v (g.W.Write.contents c.next_line.new.out) c.loop-fault.held.items c.loop-fault.lines c.loop-fault.tally i.4 c.in_err-next_line.ensures.err)
+    u v (g.T.Writes.contents c.next_line.new.out) c.loop-fault.held.items c.loop-fault.lines c.loop-fault.tally i.4 c.in_err-next_line.ensures.err)
 
 pub returns-in-End-clause-ok : goal.returns-in-End-clause-ok
 returns-in-End-clause-ok g c =
@@ -47,9 +47,9 @@ returns-in-End-clause-ok g c =
     let says = g.J.Judge.says c.args.judge.now in
     let a = left_of g.R.Read.remaining c.args.reader.now in
     let r = left_of g.R.Read.remaining c.loop-fault.reader in
-    let u = g.W.Write.contents c.args.out.now in
-    let v = g.W.Write.contents c.loop-fault.out in
-    let w = g.W.Write.contents c.next_line.new.out in
+    let u = g.T.Writes.contents c.args.out.now in
+    let v = g.T.Writes.contents c.loop-fault.out in
+    let w = g.T.Writes.contents c.next_line.new.out in
     let given = subst (Gives g.R.Read.remaining c.loop-fault.reader c.next_line.new.reader) c.in-End.is c.in_ok-next_line.ensures.given in
     let came = HasCome-written says a r (IsOver c.loop-fault.reader → ⊥) u v w c.loop-fault.held.items c.next_line.new.held.items c.loop-fault.lines c.loop-fault.tally i.4 c.in_ok-next_line.ensures.ok in
     HasCome-end says a r (IsOver c.loop-fault.reader → ⊥) u w c.next_line.new.held.items c.loop-fault.lines c.loop-fault.tally came given.none_left
@@ -65,9 +65,9 @@ returns-in-Fault-clause-ok g c =
     let says = g.J.Judge.says c.args.judge.now in
     let a = left_of g.R.Read.remaining c.args.reader.now in
     let r = left_of g.R.Read.remaining c.loop-fault.reader in
-    let u = g.W.Write.contents c.args.out.now in
-    let v = g.W.Write.contents c.loop-fault.out in
-    let w = g.W.Write.contents c.next_line.new.out in
+    let u = g.T.Writes.contents c.args.out.now in
+    let v = g.T.Writes.contents c.loop-fault.out in
+    let w = g.T.Writes.contents c.next_line.new.out in
     let fault = c.in-Fault.fault in
     let given = subst (Gives g.R.Read.remaining c.loop-fault.reader c.next_line.new.reader) c.in-Fault.is c.in_ok-next_line.ensures.given in
     let not_over = λ (over : IsOver c.loop-fault.reader). let ends = c.in_ok-next_line.ensures.again.over over in absurd {A = ⊥} (cc) in
@@ -83,19 +83,19 @@ returns-in_err-keep_where-in-Ok-clause-err g c =
     let a = left_of g.R.Read.remaining c.args.reader.now in
     let r = left_of g.R.Read.remaining c.loop-fault.reader in
     let s = left_of g.R.Read.remaining c.next_line.new.reader in
-    let u = g.W.Write.contents c.args.out.now in
-    let v = g.W.Write.contents c.next_line.new.out in
+    let u = g.T.Writes.contents c.args.out.now in
+    let v = g.T.Writes.contents c.next_line.new.out in
     let line = c.line-line.result.now in
     let given = subst (Gives g.R.Read.remaining c.loop-fault.reader c.next_line.new.reader) c.in-Line.is c.in_ok-next_line.ensures.given in
     let first = subst (λ (l : List ℕ). GivesLine r s l) (sym c.line-line.ensures) given.first in
     let not_over = λ (over : IsOver c.loop-fault.reader). let ends = c.in_ok-next_line.ensures.again.over over in absurd {A = ⊥} (cc) in
-    let came = HasCome-written says a r (IsOver c.loop-fault.reader → ⊥) u (g.W.Write.contents c.loop-fault.out) v c.loop-fault.held.items c.next_line.new.held.items c.loop-fault.lines c.loop-fault.tally i.4 c.in_ok-next_line.ensures.ok in
+    let came = HasCome-written says a r (IsOver c.loop-fault.reader → ⊥) u (g.T.Writes.contents c.loop-fault.out) v c.loop-fault.held.items c.next_line.new.held.items c.loop-fault.lines c.loop-fault.tally i.4 c.in_ok-next_line.ensures.ok in
     let same = SaysTheSame-trans says (g.J.Judge.says c.loop-fault.judge) (g.J.Judge.says c.judge_at_front.new.self) i.3 c.judge_at_front.ensures.same in
     let comes = ComesOf-same _ _ line _ c.line_outcome.result same c.line_outcome.ensures.comes in
     let failed = c.in_err-keep_where-in-Ok.ensures in
     OnErr-from c.from_residual-in_err-keep_where-in-Ok.result _
     (HasCome-failed says line (IsOver c.loop-fault.reader → ⊥) u v c.next_line.new.held.items c.loop-fault.lines c.loop-fault.tally c.line_outcome.result comes not_over
-    a r s c.in-Ok.one (g.W.Write.contents c.keep_where.new.out) came first c.in-Ok.is failed.kept failed.err)
+    a r s c.in-Ok.one (g.T.Writes.contents c.keep_where.new.out) came first c.in-Ok.is failed.kept failed.err)
 
 pub overflow_add-tally : goal.overflow_add-tally
 overflow_add-tally g c = let i = c.loop-fault.invariant in omega (arith, i.0, i.1, c.requires.few)
@@ -113,19 +113,19 @@ returns-in_err-keep-in-Some-Kept-clause-err g c =
     let a = left_of g.R.Read.remaining c.args.reader.now in
     let r = left_of g.R.Read.remaining c.loop-fault.reader in
     let s = left_of g.R.Read.remaining c.next_line.new.reader in
-    let u = g.W.Write.contents c.args.out.now in
-    let v = g.W.Write.contents c.next_line.new.out in
+    let u = g.T.Writes.contents c.args.out.now in
+    let v = g.T.Writes.contents c.next_line.new.out in
     let line = c.line-line.result.now in
     let front = c.front.result.now in
     let given = subst (Gives g.R.Read.remaining c.loop-fault.reader c.next_line.new.reader) c.in-Line.is c.in_ok-next_line.ensures.given in
     let first = subst (λ (l : List ℕ). GivesLine r s l) (sym c.line-line.ensures) given.first in
     let not_over = λ (over : IsOver c.loop-fault.reader). let ends = c.in_ok-next_line.ensures.again.over over in absurd {A = ⊥} (cc) in
-    let came = HasCome-written says a r (IsOver c.loop-fault.reader → ⊥) u (g.W.Write.contents c.loop-fault.out) v c.loop-fault.held.items c.next_line.new.held.items c.loop-fault.lines c.loop-fault.tally i.4 c.in_ok-next_line.ensures.ok in
+    let came = HasCome-written says a r (IsOver c.loop-fault.reader → ⊥) u (g.T.Writes.contents c.loop-fault.out) v c.loop-fault.held.items c.next_line.new.held.items c.loop-fault.lines c.loop-fault.tally i.4 c.in_ok-next_line.ensures.ok in
     let front_is : take (length line) front ≡ line = ap (λ (l : List ℕ). take (length l) front) c.line-line.ensures ∙ c.front.ensures ∙ sym c.line-line.ensures in
     let short : length line ≤ longest_line = subst (λ (l : List ℕ). length l ≤ longest_line) (sym c.line-line.ensures) given.short in
     let finds = found_at_once says (g.J.Judge.says c.loop-fault.judge) front line c.judge_at_front.result c.in-Some-Kept.field-0 Judgment.Kept i.3 c.in-Some-Kept.is c.in-Some-Kept.field-0-is front_is short c.judge_at_front.ensures.said c.judge_at_front.ensures.not_blank in
     OnErr-from c.from_residual-in_err-keep-in-Some-Kept.result _
-    (HasCome-unkept says line (IsOver c.loop-fault.reader → ⊥) u v c.next_line.new.held.items c.loop-fault.lines c.loop-fault.tally not_over a r s came first finds (g.W.Write.contents c.keep.new.out) c.in_err-keep-in-Some-Kept.ensures.err)
+    (HasCome-unkept says line (IsOver c.loop-fault.reader → ⊥) u v c.next_line.new.held.items c.loop-fault.lines c.loop-fault.tally not_over a r s came first finds (g.T.Writes.contents c.keep.new.out) c.in_err-keep-in-Some-Kept.ensures.err)
 
 pub loop-fault-preserved-in-Some-Kept : goal.loop-fault-preserved-in-Some-Kept
 loop-fault-preserved-in-Some-Kept g c =
@@ -134,14 +134,14 @@ loop-fault-preserved-in-Some-Kept g c =
     let a = left_of g.R.Read.remaining c.args.reader.now in
     let r = left_of g.R.Read.remaining c.loop-fault.reader in
     let s = left_of g.R.Read.remaining c.next_line.new.reader in
-    let u = g.W.Write.contents c.args.out.now in
-    let v = g.W.Write.contents c.next_line.new.out in
+    let u = g.T.Writes.contents c.args.out.now in
+    let v = g.T.Writes.contents c.next_line.new.out in
     let line = c.line-line.result.now in
     let front = c.front.result.now in
     let given = subst (Gives g.R.Read.remaining c.loop-fault.reader c.next_line.new.reader) c.in-Line.is c.in_ok-next_line.ensures.given in
     let first = subst (λ (l : List ℕ). GivesLine r s l) (sym c.line-line.ensures) given.first in
     let not_over = λ (over : IsOver c.loop-fault.reader). let ends = c.in_ok-next_line.ensures.again.over over in absurd {A = ⊥} (cc) in
-    let came = HasCome-written says a r (IsOver c.loop-fault.reader → ⊥) u (g.W.Write.contents c.loop-fault.out) v c.loop-fault.held.items c.next_line.new.held.items c.loop-fault.lines c.loop-fault.tally i.4 c.in_ok-next_line.ensures.ok in
+    let came = HasCome-written says a r (IsOver c.loop-fault.reader → ⊥) u (g.T.Writes.contents c.loop-fault.out) v c.loop-fault.held.items c.next_line.new.held.items c.loop-fault.lines c.loop-fault.tally i.4 c.in_ok-next_line.ensures.ok in
     let front_is : take (length line) front ≡ line = ap (λ (l : List ℕ). take (length l) front) c.line-line.ensures ∙ c.front.ensures ∙ sym c.line-line.ensures in
     let short : length line ≤ longest_line = subst (λ (l : List ℕ). length l ≤ longest_line) (sym c.line-line.ensures) given.short in
     let finds = found_at_once says (g.J.Judge.says c.loop-fault.judge) front line c.judge_at_front.result c.in-Some-Kept.field-0 Judgment.Kept i.3 c.in-Some-Kept.is c.in-Some-Kept.field-0-is front_is short c.judge_at_front.ensures.said c.judge_at_front.ensures.not_blank in
@@ -155,7 +155,7 @@ loop-fault-preserved-in-Some-Kept g c =
       rows_fit,
       kept_fit,
       SaysTheSame-trans _ _ _ i.3 c.judge_at_front.ensures.same,
-      HasCome-kept says line (IsOver c.loop-fault.reader → ⊥) u v c.next_line.new.held.items c.loop-fault.lines c.loop-fault.tally not_over a r s came first finds (IsOver c.next_line.new.reader) whole (g.W.Write.contents c.keep.new.out) c.keep.new.held.items wrote.ok,
+      HasCome-kept says line (IsOver c.loop-fault.reader → ⊥) u v c.next_line.new.held.items c.loop-fault.lines c.loop-fault.tally not_over a r s came first finds (IsOver c.next_line.new.reader) whole (g.T.Writes.contents c.keep.new.out) c.keep.new.held.items wrote.ok,
       reads_well_more g.S.Reads.calls g.R.Read.remaining c.args.reader.now c.loop-fault.reader c.next_line.new.reader i.5 c.in_ok-next_line.ensures.reads (going_read c.next_line.new.reader given.going),
       stays_well_trans _ (g.T.Writes.calls c.next_line.new.out) _ (stays_well_trans _ (g.T.Writes.calls c.loop-fault.out) _ i.6 c.in_ok-next_line.ensures.well) wrote.well,
       λ is_unread. absurd (going_read c.next_line.new.reader given.going is_unread),
@@ -168,14 +168,14 @@ loop-fault-preserved-in-Some-LeftOut g c =
     let a = left_of g.R.Read.remaining c.args.reader.now in
     let r = left_of g.R.Read.remaining c.loop-fault.reader in
     let s = left_of g.R.Read.remaining c.next_line.new.reader in
-    let u = g.W.Write.contents c.args.out.now in
-    let v = g.W.Write.contents c.next_line.new.out in
+    let u = g.T.Writes.contents c.args.out.now in
+    let v = g.T.Writes.contents c.next_line.new.out in
     let line = c.line-line.result.now in
     let front = c.front.result.now in
     let given = subst (Gives g.R.Read.remaining c.loop-fault.reader c.next_line.new.reader) c.in-Line.is c.in_ok-next_line.ensures.given in
     let first = subst (λ (l : List ℕ). GivesLine r s l) (sym c.line-line.ensures) given.first in
     let not_over = λ (over : IsOver c.loop-fault.reader). let ends = c.in_ok-next_line.ensures.again.over over in absurd {A = ⊥} (cc) in
-    let came = HasCome-written says a r (IsOver c.loop-fault.reader → ⊥) u (g.W.Write.contents c.loop-fault.out) v c.loop-fault.held.items c.next_line.new.held.items c.loop-fault.lines c.loop-fault.tally i.4 c.in_ok-next_line.ensures.ok in
+    let came = HasCome-written says a r (IsOver c.loop-fault.reader → ⊥) u (g.T.Writes.contents c.loop-fault.out) v c.loop-fault.held.items c.next_line.new.held.items c.loop-fault.lines c.loop-fault.tally i.4 c.in_ok-next_line.ensures.ok in
     let front_is : take (length line) front ≡ line = ap (λ (l : List ℕ). take (length l) front) c.line-line.ensures ∙ c.front.ensures ∙ sym c.line-line.ensures in
     let short : length line ≤ longest_line = subst (λ (l : List ℕ). length l ≤ longest_line) (sym c.line-line.ensures) given.short in
     let finds = found_at_once says (g.J.Judge.says c.loop-fault.judge) front line c.judge_at_front.result c.in-Some-LeftOut.field-0 Judgment.LeftOut i.3 c.in-Some-LeftOut.is c.in-Some-LeftOut.field-0-is front_is short c.judge_at_front.ensures.said c.judge_at_front.ensures.not_blank in
@@ -201,14 +201,14 @@ returns-in-Some-Fault-clause-ok g c =
     let a = left_of g.R.Read.remaining c.args.reader.now in
     let r = left_of g.R.Read.remaining c.loop-fault.reader in
     let s = left_of g.R.Read.remaining c.next_line.new.reader in
-    let u = g.W.Write.contents c.args.out.now in
-    let v = g.W.Write.contents c.next_line.new.out in
+    let u = g.T.Writes.contents c.args.out.now in
+    let v = g.T.Writes.contents c.next_line.new.out in
     let line = c.line-line.result.now in
     let front = c.front.result.now in
     let given = subst (Gives g.R.Read.remaining c.loop-fault.reader c.next_line.new.reader) c.in-Line.is c.in_ok-next_line.ensures.given in
     let first = subst (λ (l : List ℕ). GivesLine r s l) (sym c.line-line.ensures) given.first in
     let not_over = λ (over : IsOver c.loop-fault.reader). let ends = c.in_ok-next_line.ensures.again.over over in absurd {A = ⊥} (cc) in
-    let came = HasCome-written says a r (IsOver c.loop-fault.reader → ⊥) u (g.W.Write.contents c.loop-fault.out) v c.loop-fault.held.items c.next_line.new.held.items c.loop-fault.lines c.loop-fault.tally i.4 c.in_ok-next_line.ensures.ok in
+    let came = HasCome-written says a r (IsOver c.loop-fault.reader → ⊥) u (g.T.Writes.contents c.loop-fault.out) v c.loop-fault.held.items c.next_line.new.held.items c.loop-fault.lines c.loop-fault.tally i.4 c.in_ok-next_line.ensures.ok in
     let front_is : take (length line) front ≡ line = ap (λ (l : List ℕ). take (length l) front) c.line-line.ensures ∙ c.front.ensures ∙ sym c.line-line.ensures in
     let short : length line ≤ longest_line = subst (λ (l : List ℕ). length l ≤ longest_line) (sym c.line-line.ensures) given.short in
     let finds = found_at_once says (g.J.Judge.says c.loop-fault.judge) front line c.judge_at_front.result c.in-Some-Fault.field-0 (Judgment.Fault c.in-Some-Fault.fault) i.3 c.in-Some-Fault.is c.in-Some-Fault.field-0-is front_is short c.judge_at_front.ensures.said c.judge_at_front.ensures.not_blank in
@@ -232,8 +232,8 @@ loop-fault-preserved g c =
     let a = left_of g.R.Read.remaining c.args.reader.now in
     let r = left_of g.R.Read.remaining c.loop-fault.reader in
     let s = left_of g.R.Read.remaining c.next_line.new.reader in
-    let u = g.W.Write.contents c.args.out.now in
-    let v = g.W.Write.contents c.next_line.new.out in
+    let u = g.T.Writes.contents c.args.out.now in
+    let v = g.T.Writes.contents c.next_line.new.out in
     let line = c.line-line.result.now in
     let kept = c.in_ok-keep_where-in-Ok.ensures in
     let counts = outcome_counts _ _ c.line_outcome.result c.in-Ok.one c.line_outcome.ensures.comes c.in-Ok.is in
@@ -241,7 +241,7 @@ loop-fault-preserved g c =
     let first = subst (λ (l : List ℕ). GivesLine r s l) (sym c.line-line.ensures) given.first in
     let whole = subst (λ (l : List ℕ). IsOver c.next_line.new.reader ⊎ WhereKnown r s (λ rest after. rest ≡ l ++ 10 ∷ after)) (sym c.line-line.ensures) given.whole in
     let not_over = λ (over : IsOver c.loop-fault.reader). let ends = c.in_ok-next_line.ensures.again.over over in absurd {A = ⊥} (cc) in
-    let came = HasCome-written says a r (IsOver c.loop-fault.reader → ⊥) u (g.W.Write.contents c.loop-fault.out) v c.loop-fault.held.items c.next_line.new.held.items c.loop-fault.lines c.loop-fault.tally i.4 c.in_ok-next_line.ensures.ok in
+    let came = HasCome-written says a r (IsOver c.loop-fault.reader → ⊥) u (g.T.Writes.contents c.loop-fault.out) v c.loop-fault.held.items c.next_line.new.held.items c.loop-fault.lines c.loop-fault.tally i.4 c.in_ok-next_line.ensures.ok in
     let same = SaysTheSame-trans says (g.J.Judge.says c.loop-fault.judge) (g.J.Judge.says c.judge_at_front.new.self) i.3 c.judge_at_front.ensures.same in
     let comes = ComesOf-same _ _ line _ c.line_outcome.result same c.line_outcome.ensures.comes in
     let fewer = given.fewer in
@@ -253,7 +253,7 @@ loop-fault-preserved g c =
       kept_fit,
       SaysTheSame-trans _ _ _ same c.line_outcome.ensures.same,
       HasCome-more says line (IsOver c.loop-fault.reader → ⊥) u v c.next_line.new.held.items c.loop-fault.lines c.loop-fault.tally c.line_outcome.result comes not_over
-          a r s (IsOver c.next_line.new.reader) c.in-Ok.one (g.W.Write.contents c.keep_where.new.out) c.keep_where.new.held.items came first whole c.in-Ok.is kept.ok,
+          a r s (IsOver c.next_line.new.reader) c.in-Ok.one (g.T.Writes.contents c.keep_where.new.out) c.keep_where.new.held.items came first whole c.in-Ok.is kept.ok,
       reads_well_more g.S.Reads.calls g.R.Read.remaining c.args.reader.now c.loop-fault.reader c.next_line.new.reader i.5 c.in_ok-next_line.ensures.reads (going_read c.next_line.new.reader given.going),
       stays_well_trans _ (g.T.Writes.calls c.next_line.new.out) _ (stays_well_trans _ (g.T.Writes.calls c.loop-fault.out) _ i.6 c.in_ok-next_line.ensures.well) kept.well,
       λ is. absurd (going_read c.next_line.new.reader given.going is),
@@ -266,13 +266,13 @@ returns-in-Err-clause-ok g c =
     let a = left_of g.R.Read.remaining c.args.reader.now in
     let r = left_of g.R.Read.remaining c.loop-fault.reader in
     let s = left_of g.R.Read.remaining c.next_line.new.reader in
-    let u = g.W.Write.contents c.args.out.now in
-    let v = g.W.Write.contents c.next_line.new.out in
+    let u = g.T.Writes.contents c.args.out.now in
+    let v = g.T.Writes.contents c.next_line.new.out in
     let line = c.line-line.result.now in
     let given = subst (Gives g.R.Read.remaining c.loop-fault.reader c.next_line.new.reader) c.in-Line.is c.in_ok-next_line.ensures.given in
     let first = subst (λ (l : List ℕ). GivesLine r s l) (sym c.line-line.ensures) given.first in
     let not_over = λ (over : IsOver c.loop-fault.reader). let ends = c.in_ok-next_line.ensures.again.over over in absurd {A = ⊥} (cc) in
-    let came = HasCome-written says a r (IsOver c.loop-fault.reader → ⊥) u (g.W.Write.contents c.loop-fault.out) v c.loop-fault.held.items c.next_line.new.held.items c.loop-fault.lines c.loop-fault.tally i.4 c.in_ok-next_line.ensures.ok in
+    let came = HasCome-written says a r (IsOver c.loop-fault.reader → ⊥) u (g.T.Writes.contents c.loop-fault.out) v c.loop-fault.held.items c.next_line.new.held.items c.loop-fault.lines c.loop-fault.tally i.4 c.in_ok-next_line.ensures.ok in
     let same = SaysTheSame-trans says (g.J.Judge.says c.loop-fault.judge) (g.J.Judge.says c.judge_at_front.new.self) i.3 c.judge_at_front.ensures.same in
     let comes = ComesOf-same _ _ line _ c.line_outcome.result same c.line_outcome.ensures.comes in
     HasCome-stopped says line (IsOver c.loop-fault.reader → ⊥) u v c.next_line.new.held.items c.loop-fault.lines c.loop-fault.tally c.line_outcome.result comes not_over

@@ -14,7 +14,7 @@ invariant-loop-fault g l = (l.lines + bytes_to_come l.reader ≤ bytes_to_come l
     × (l.tally.rows ≤ l.lines) × (l.tally.kept ≤ l.lines)
     × SaysTheSame (g.J.Judge.says l.initial.judge) (g.J.Judge.says l.judge)
     × HasCome (g.J.Judge.says l.initial.judge) (left_of g.R.Read.remaining l.initial.reader) (left_of g.R.Read.remaining l.reader) (IsOver l.reader → ⊥)
-    (g.W.Write.contents l.initial.out) (g.W.Write.contents l.out) l.held.items l.lines l.tally
+    (g.T.Writes.contents l.initial.out) (g.T.Writes.contents l.out) l.held.items l.lines l.tally
     × ReadsWell g.S.Reads.calls g.R.Read.remaining l.initial.reader l.reader
     × StaysWell (g.T.Writes.calls l.initial.out) (g.T.Writes.calls l.out)
     × (IsUnread l.reader → l.held.items ≡ [])

@@ -14,7 +14,7 @@ abbrev pub invariant-loop-next : goal.invariant-loop-next
 invariant-loop-next g l = Keeps (left_of g.R.Read.remaining l.initial.reader) (left_of g.R.Read.remaining l.reader)
     × (bytes_to_come l.reader ≡ bytes_to_come l.initial.reader)
     × ((l.reader ≡ l.initial.reader) ⊎ (l.initial.reader.course ≡ Course.Open))
-    × WritesBut (g.W.Write.contents l.initial.out) (g.W.Write.contents l.out) l.held.items l.initial.held.items
+    × WritesBut (g.T.Writes.contents l.initial.out) (g.T.Writes.contents l.out) l.held.items l.initial.held.items
     × ReadsOn g.S.Reads.calls g.R.Read.remaining l.initial.reader l.reader
     × StaysWell (g.T.Writes.calls l.initial.out) (g.T.Writes.calls l.out)
     × (IsUnread l.reader → (IsUnread l.initial.reader → l.initial.held.items ≡ []) → l.held.items ≡ [])

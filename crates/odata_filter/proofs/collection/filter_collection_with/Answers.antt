@@ -11,7 +11,7 @@ returns-in-Some-clause-filters g c =
     let now = c.args.now.now in
     let document = c.args.document.now in
     let known = subst (λ (flags : List Bool). (items : List Data) × IsArrayIn document items × AreJudged (λ json kept. JudgesValue filter now json (judgment_where kept)) items flags) (sym c.as_slice.ensures.value) c.in-Some.ensures.judged in
-    filtered_so filter now document c.as_slice.result.now (g.W.Write.contents c.args.out.now) (g.W.Write.contents c.filter_known.new.out) c.in-Some.ensures.utf8 known c.filter_known.result c.filter_known.ensures.filters
+    filtered_so filter now document c.as_slice.result.now (g.T.Writes.contents c.args.out.now) (g.T.Writes.contents c.filter_known.new.out) c.in-Some.ensures.utf8 known c.filter_known.result c.filter_known.ensures.filters
 
 pub returns-in-Some-clause-stops : goal.returns-in-Some-clause-stops
 returns-in-Some-clause-stops g c =
@@ -19,4 +19,4 @@ returns-in-Some-clause-stops g c =
     let now = c.args.now.now in
     let document = c.args.document.now in
     let known = subst (λ (flags : List Bool). (items : List Data) × IsArrayIn document items × AreJudged (λ json kept. JudgesValue filter now json (judgment_where kept)) items flags) (sym c.as_slice.ensures.value) c.in-Some.ensures.judged in
-    stopped_so filter now document c.as_slice.result.now (g.W.Write.contents c.args.out.now) (g.W.Write.contents c.filter_known.new.out) c.in-Some.ensures.utf8 known c.filter_known.result c.filter_known.ensures.stops
+    stopped_so filter now document c.as_slice.result.now (g.T.Writes.contents c.args.out.now) (g.T.Writes.contents c.filter_known.new.out) c.in-Some.ensures.utf8 known c.filter_known.result c.filter_known.ensures.stops

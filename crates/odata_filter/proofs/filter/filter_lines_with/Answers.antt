@@ -14,8 +14,8 @@ pub returns-in-Ok-clause-filters : goal.returns-in-Ok-clause-filters
 returns-in-Ok-clause-filters g c =
     let judge = c.new-judge.result in
     let left = left_of g.R.Read.remaining c.args.rows.now in
-    let old = g.W.Write.contents c.args.out.now in
-    let new = g.W.Write.contents c.filter_reader.new.out in
+    let old = g.T.Writes.contents c.args.out.now in
+    let new = g.T.Writes.contents c.filter_reader.new.out in
     let Passed : Filter → MomentParts → Type 0 = λ f m. IfSome left (λ bytes. Writes old new (λ text. Filters (rows_of f m bytes) text c.in-Ok.tally)) in
     of_filter Passed judge.filter c.args.checked.now judge.moment c.args.now.now c.new-judge.ensures.filter c.new-judge.ensures.moment c.in-Ok.ensures.filters
 
@@ -25,8 +25,8 @@ returns-clause-stops g c =
     let source = c.filter_reader.new.reader in
     let left = left_of g.R.Read.remaining c.args.rows.now in
     let known = g.R.Read.remaining source.reader in
-    let old = g.W.Write.contents c.args.out.now in
-    let new = g.W.Write.contents c.filter_reader.new.out in
+    let old = g.T.Writes.contents c.args.out.now in
+    let new = g.T.Writes.contents c.filter_reader.new.out in
     let Stopped : Filter → MomentParts → Type 0 = λ f m. IfSome left (λ bytes. Writes old new (λ text. StopsLines f m bytes source.waiting known text c.run_fault.result)) in
     of_filter Stopped judge.filter c.args.checked.now judge.moment c.args.now.now c.new-judge.ensures.filter c.new-judge.ensures.moment
     (stops_lines judge.filter judge.moment source.waiting known left old new c.in-Err.stop c.run_fault.result c.run_fault.ensures c.in-Err.ensures.stops)
