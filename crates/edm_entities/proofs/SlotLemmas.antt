@@ -3,6 +3,7 @@ pub mod Depth
 pub mod EachSlot
 pub mod EntitySlots
 pub mod FaultsBelow
+pub mod FewSlots
 pub mod FoundWalk
 pub mod ItemWalk
 pub mod BorrowedSlots

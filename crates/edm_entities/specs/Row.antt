@@ -4,13 +4,14 @@ use Rattle.std.specs.declared.alloc.Global.{Global}
 use Rattle.std.specs.Cmp.Lexicographic.{pointwise}
 use Rattle.serde_json.specs.Data.{Data}
 use Rattle.edm_values.specs.Val.{Val, null, boolean, whole, text, date, moment, guid, member, fields, items, FieldVal, absent, present, Vals, no_items, item}
+use Rattle.edm_values.specs.Sparse.{by_slot}
 use Rattle.edm_values.specs.declared.value.Value.{Value, Record, fold-Value}
 use Rattle.edm_values.specs.declared.value.Value.TheOpen.{Value-F}
 use Rattle.csdl_schema.specs.ExpansionView.{StepModel, paths_in}
 use Rattle.csdl_schema.specs.ExprType.{ExprType, single, collection, SingleType, structured}
 use Rattle.csdl_schema.specs.SchemaModel.{Slots, SchemaModel, PropertyModel, PropertyType, declared, opaque, navigation, expanded, slots_of, type_name_at, properties_at, HasDistinctNames, HoldsType}
 use Rattle.edm_entities.specs.Fits.{Fits}
-use Rattle.edm_entities.specs.HoldsEachSlot.{HoldsEachSlot}
+use Rattle.edm_entities.specs.HoldsEachSlot.{HoldsEachSlot, slot_count}
 
 -- the properties of types, by the types' names
 abbrev pub PropertiesByType : Type 0
@@ -49,6 +50,9 @@ abbrev pub list_of : PropertiesByType → ExprType → List ValAtType → Val
 list_of properties (collection type) held = items (items_of properties type held)
 list_of properties type held = items no_items
 
+abbrev pub null_seen : ValAtType
+null_seen properties type = null
+
 -- one level, with each value inside already seen
 abbrev pub val_step : Value-F ValAtType → ValAtType
 val_step Value-F.Null properties type = null
@@ -60,6 +64,8 @@ val_step (Value-F.Moment m) properties type = moment m
 val_step (Value-F.Guid g) properties type = guid g
 val_step (Value-F.Enum n) properties type = member n
 val_step (Value-F.Record v) properties type = record_of properties type v.items
+val_step (Value-F.Sparse v) properties type =
+    record_of properties type (by_slot null_seen v.items 0 (slot_count properties type))
 val_step (Value-F.List v) properties type = list_of properties type v.items
 
 -- what a value of that type stands for

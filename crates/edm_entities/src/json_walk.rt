@@ -15,7 +15,7 @@ ghost use Rattle.edm_row_plans.specs.Expanded.{node_behind, slots_in, target_if}
 ghost use Rattle.edm_entities.specs.private.Walk.{FitSlots, FitList, HoldsInSlot, HoldInItems, wanted_single};
 
 use super::flaw::{ReadFault, ReadFlaw, fault_below, fault_here, fault_in_item};
-use super::leaf::{absent_value, leaf_read, null_value, read_member, read_primitive};
+use super::leaf::{absent_value, leaf_read, null_value, read_member, read_primitive, record_of};
 use super::member_walk::members_of;
 use super::property_cursor::first_piece;
 use super::scalar::scalar_of;
@@ -146,7 +146,7 @@ fn read_value(
         Wanted::Enum(id) => leaf_read(read_member(context.schema, id, scalar_of(json))),
         Wanted::Complex(id) => {
             let values = read_slots(context, id, node, json)?;
-            Ok(Value::Record(values))
+            record_of(context.alloc, values)
         }
     }
 }

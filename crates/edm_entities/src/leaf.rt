@@ -1,6 +1,7 @@
 //! Values of the types without parts, from JSON values without parts; of null and of nothing.
 ghost use Rattle.std.specs.Prelude.{◌≡◌, ◌≢◌, ◌⊎◌, true, false, None, Ok, Err, IfOk, IfErr};
 ghost use Rattle.serde_json.specs.Data.{Data, boolean, string};
+ghost use Rattle.edm_values.specs.Sparse.{IsRecordOf};
 ghost use Rattle.csdl_schema.specs.ExprType.{ExprType};
 ghost use Rattle.csdl_schema.specs.SchemaModel.{Slots, slots_of, type_name_at};
 ghost use Rattle.edm_entities.specs.FitsPrimitive.{FitsNumber, FitsPrimitive, FitsText, IsMemberText, IsNumberFlaw, IsPrimitiveFlaw, IsTextFlaw};
@@ -11,7 +12,7 @@ ghost use Rattle.edm_entities.specs.private.Scalars.{IsJsonNumber, IsScalar};
 use super::flaw::{ReadFault, ReadFlaw, fault_here};
 use super::scalar::{JsonNumber, Scalar};
 use csdl_schema::{EnumId, Property, Schema};
-use edm_values::{Prim, Value, read_date, read_guid, read_moment};
+use edm_values::{Prim, Value, read_date, read_guid, read_moment, take_few};
 use std::alloc::Global;
 
 /// Reads what is expected as a primitive type.
@@ -157,5 +158,18 @@ pub(crate) fn null_value(nullable: bool) -> Result<Value, ReadFault>
         Ok(Value::Null)
     } else {
         Err(fault_here(ReadFlaw::NullNotAllowed))
+    }
+}
+
+/// The record of these values; if most are null, the others stand beside their slots.
+pub(crate) fn record_of(alloc: Global, values: Vec<Value>) -> Result<Value, ReadFault>
+    ensures record { IfOk result (IsRecordOf values) }
+    ensures fault { IfErr result (λ fault. (fault.path ≡ None) × (fault.flaw ≡ ReadFlaw.Memory)) }
+{
+    let mut by_slot = values;
+    match take_few(alloc, &mut by_slot) {
+        Ok(Some(held)) => Ok(Value::Sparse(held)),
+        Ok(None) => Ok(Value::Record(by_slot)),
+        Err(_) => Err(fault_here(ReadFlaw::Memory)),
     }
 }

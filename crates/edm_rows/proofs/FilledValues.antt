@@ -10,20 +10,24 @@ use Rattle.csdl_schema.specs.SchemaModel.{HasDistinctNames, Slots, properties_at
 use Rattle.edm_values.specs.declared.primitive.PrimitiveType.{PrimitiveType}
 use Rattle.edm_values.specs.declared.primitive.PrimitiveType.TheVariants as prim
 use Rattle.edm_values.specs.declared.sieve.Sieve.{Sieve}
-use Rattle.edm_values.specs.declared.value.Value.{Value, Null, Record as RecordOf, List as ListOf}
-use Rattle.edm_entities.specs.Fits.{FitsType}
+use Rattle.edm_values.specs.Sparse.{IsRecordOf}
+use Rattle.edm_values.specs.Val.{Val}
+use Rattle.edm_values.specs.declared.value.Value.{Value, Null, List as ListOf}
+use Rattle.edm_entities.specs.Fits.{FitsFound, FitsType}
 use Rattle.edm_entities.specs.Row.{val_of}
 use Rattle.json_room.specs.private.ItemTokens.{append_items}
 use Rattle.edm_rows.specs.private.Passed.{FitsHoweverNullable}
 use Rattle.json_room.proofs.Tokens.{null_token as null_read}
-use Rattle.edm_entities.specs.private.Walk.{FitList, FitSlots, HoldInItems}
+use Rattle.edm_entities.specs.private.Walk.{FitList, FitSlots, FitsSlot, HoldInItems}
 use Rattle.edm_rows.proofs.RowLemmas.Leaves.{not_null_fits}
 use Rattle.edm_rows.proofs.RowLemmas.Parts.{fit_push, list_held, record_held}
 use Rattle.std.proofs.lemmas.List.{take_more_set}
 use Rattle.json.specs.Lex.{after_value}
 use Rattle.edm_rows.proofs.Indexes.{take_none}
 use Rattle.edm_entities.proofs.SlotLemmas.EachSlot.{holds_push, list_held as list_holds, member_holds, null_holds, primitive_holds, slots_held}
+use Rattle.edm_entities.proofs.SlotLemmas.FewSlots.{record_held as few_held, record_val}
 use Rattle.edm_entities.proofs.SlotLemmas.FoundWalk.{val_of-Null}
+use Rattle.edm_entities.proofs.SlotLemmas.SlotsByName.{as_many}
 use Rattle.json_room.specs.private.Lexemes.{PassesSpaces}
 use Rattle.json_room.specs.Lexemes.{StandsTo, tokens_at}
 use Rattle.edm_rows.specs.declared.kept_leaf.Taken.{Taken}
@@ -137,23 +141,30 @@ module _ (slots : Slots) (kinds : Kinds) (nullable : Bool) (inner : Task) where
 -- ---- records
 
 module _ (context : ReadContext) (slot : RowSlot) (type : RowType) (there : IsTypeThere context.schema.now context.plan.now.expansion context.plan.now.plans.items slot type) (values : Vec Value Global) where
-  filled_record : (found : _) → FitSlots (slots_behind_node context type.node) (object found) (properties_at context.schema.now type.type_id) values.items → IsFilledIn context slot Record (RecordOf values) (object found)
-  filled_record found fits =
+  filled_record : (value : Value) → IsRecordOf values value → (found : _) → FitSlots (slots_behind_node context type.node) (object found) (properties_at context.schema.now type.type_id) values.items
+      → IsFilledIn context slot Record value (object found)
+  filled_record value is found fits =
       let schema = context.schema.now in
       let steps = context.plan.now.expansion in
       let name = (kinds_of schema context.plan.now.plans.items slot).record_type in
-      let named : name ≡ type_name_at schema type.type_id = ap (name_at schema) there.id_is in
+      let own = type_name_at schema type.type_id in
+      let named : name ≡ own = ap (name_at schema) there.id_is in
       let distinct : HasDistinctNames (properties_at schema type.type_id) = subst (λ id. HasDistinctNames (properties_at schema id)) (sym there.is.of_type.0) there.is.is_plan.distinct in
       let here = slots_behind_node context type.node in
-      subst (λ n. IsFilled (slots_behind_node context n) slot.is_nullable slot.is_nullable (single (structured name)) (RecordOf values) (object found)) there.behind
-      (subst (λ s. IsFilled here slot.is_nullable slot.is_nullable (single (structured s)) (RecordOf values) (object found)) (sym named)
-      (record_held schema steps type.node type.type_id values found distinct fits slot.is_nullable, slots_held here (type_name_at schema type.type_id) (λ n. get n (object found)) values fits))
+      let long = as_many (FitsSlot here (λ n. get n (object found))) (here.properties own) values.items fits in
+      subst (λ n. IsFilled (slots_behind_node context n) slot.is_nullable slot.is_nullable (single (structured name)) value (object found)) there.behind
+      (subst (λ s. IsFilled here slot.is_nullable slot.is_nullable (single (structured s)) value (object found)) (sym named) (
+        subst (λ (v : Val). FitsFound (Some (object found)) slot.is_nullable v (λ json. FitsType here slot.is_nullable (single (structured own)) json v)) (sym (record_val here own values long value is))
+            (record_held schema steps type.node type.type_id values found distinct fits slot.is_nullable),
+        few_held here own values long value is (slots_held here own (λ n. get n (object found)) values fits),
+      ))
 
-  pub record_filled : (depth from to : ℕ) → 0 < depth → from < length context.line → get_or context.line from 32 ≡ 123 → FillsMembers context type (depth - 1) values.items (from + 1) to → FillsValue context slot Record depth (RecordOf values) from to
-  record_filled depth from to some within is members = (
-    object_to depth context.line from to (λ found. FitSlots (slots_behind_node context type.node) (object found) (properties_at context.schema.now type.type_id) values.items) (IsFilledIn context slot Record (RecordOf values)) some within is
-        filled_record members.0 members.1,
-    (object members.1.found, filled_record members.1.found members.1.holds),
+  pub record_filled : (value : Value) → IsRecordOf values value → (depth from to : ℕ) → 0 < depth → from < length context.line → get_or context.line from 32 ≡ 123
+      → FillsMembers context type (depth - 1) values.items (from + 1) to → FillsValue context slot Record depth value from to
+  record_filled value is depth from to some within opens members = (
+    object_to depth context.line from to (λ found. FitSlots (slots_behind_node context type.node) (object found) (properties_at context.schema.now type.type_id) values.items) (IsFilledIn context slot Record value) some within opens
+        (filled_record value is) members.0 members.1,
+    (object members.1.found, filled_record value is members.1.found members.1.holds),
   )
 
 -- ---- lists

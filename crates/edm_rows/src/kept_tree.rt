@@ -20,7 +20,7 @@ use super::known_texts::Cache;
 use super::members::{After, Found, after_member, next_member};
 use super::passed_value::ReadContext;
 use super::row_types::{RowSlot, RowType, Task};
-use edm_values::Value;
+use edm_values::{Value, take_few};
 use json_room::{RoomyLine, any_value_end, null_end, past_blanks};
 use seen_slots::SeenSlots;
 use spare_values::{fit_count, list_in, record_in};
@@ -245,7 +245,14 @@ fn fill_record<M: SeenSlots>(
         values,
     );
     cache.depth += 1;
-    end
+    match take_few(cache.alloc, values) {
+        Ok(Some(held)) => {
+            cache.spares.put_few(slot.spare(), held, value);
+            end
+        }
+        Ok(None) => end,
+        Err(_) => None,
+    }
 }
 
 /// Fills a list with the array that begins there; the offset after it.

@@ -1,3 +1,4 @@
+mod FewValues
 pub mod SameTexts
 pub mod literals
 pub mod moments

@@ -8,6 +8,7 @@ pub mod MomentParts
 pub mod NumberTypes
 pub mod PlainVal
 pub mod SieveMeaning
+pub mod Sparse
 pub mod StringLiteral
 pub mod Val
 pub mod WorkedLiterals

@@ -16,5 +16,6 @@ pub enum Datum<'e> {
     Guid(Uuid),
     Enum(i64),
     Record(&'e [Value]),
+    Sparse(&'e [(usize, Value)]),
     List(&'e [Value]),
 }

@@ -21,6 +21,7 @@ mod moment_literal;
 mod moment_order;
 mod primitive;
 mod sieve;
+mod sparse;
 mod string_literal;
 mod value;
 
@@ -36,5 +37,6 @@ pub use moment::Moment;
 pub use moment_literal::{read_moment, write_moment};
 pub use primitive::PrimitiveType as Prim;
 pub use sieve::Sieve;
+pub use sparse::take_few;
 pub use string_literal::{LitFault, read_string, write_string};
 pub use value::Value;

@@ -1,11 +1,13 @@
 -- What the evaluator's values stand for.
 use Rattle.std.specs.Prelude.{ℕ, ◌≡◌, ◌<◌, List, map, length, slice_get, Option, Some, Result, Ok, Err, IsSomeAnd}
 use Rattle.edm_values.specs.Val.{Val, FieldVal, absent, Vals, no_items}
+use Rattle.edm_values.specs.Sparse.{beside, by_slot}
 use Rattle.edm_values.specs.declared.datum.Datum.{Datum}
 use Rattle.edm_values.specs.declared.datum.Datum.TheVariants as datum
-use Rattle.edm_values.specs.declared.value.Value.{Value}
+use Rattle.edm_values.specs.declared.value.Value.{Value, Null}
 use Rattle.csdl_schema.specs.ExprType.{ExprType, single, collection, structured}
 use Rattle.csdl_schema.specs.SchemaModel.{Slots}
+use Rattle.edm_entities.specs.HoldsEachSlot.{slot_count}
 use Rattle.edm_entities.specs.Row.{ValAtType, field_by_name, items_of, val_of}
 use Rattle.odata_functions.specs.DatumVal.{Reading, datum_val}
 use Rattle.odata_filter_operations.specs.declared.eval_fault.EvalFault.{EvalFault}
@@ -26,6 +28,8 @@ items_at slots type held = no_items
 abbrev pub reading_at : Slots → ExprType → Reading
 reading_at slots type = record {
   fields_of = λ held. fields_at slots type (map val_of held);
+  fields_beside = λ held.
+      fields_at slots type (map val_of (by_slot Null held 0 (slot_count slots.properties type)));
   items_of = λ held. items_at slots type (map val_of held);
 }
 
@@ -34,10 +38,11 @@ abbrev pub answer_outcome : {Held : Type 0} → (Held → Val) → Result Held E
 answer_outcome stands_for (Ok held) = Some (gives (stands_for held))
 answer_outcome stands_for (Err fault) = fault_outcome fault
 
--- it is null, or a record that has the slot
+-- it is null, or a record that has the slot; one of few values has each
 abbrev pub HasSlot : Datum → ℕ → Type 0
 HasSlot datum.Null slot = Unit {0}
 HasSlot (datum.Record held) slot = slot < length held.now
+HasSlot (datum.Sparse held) slot = Unit {0}
 HasSlot _ slot = ⊥
 
 -- what stands for a stored value, at any type
@@ -49,4 +54,5 @@ IsDatumOf value made =
 abbrev pub IsStepOf : Datum → ℕ → Datum → Type 0
 IsStepOf datum.Null slot made = made ≡ datum.Null
 IsStepOf (datum.Record held) slot made = IsSomeAnd (slice_get held.now slot) (λ value. IsDatumOf value made)
+IsStepOf (datum.Sparse held) slot made = IsDatumOf (beside Null held.now slot) made
 IsStepOf _ slot made = ⊥

@@ -1,6 +1,8 @@
 //! The values that operators take: those of literals and of the entity where they are stored.
 ghost use Rattle.std.specs.Prelude.{◌≡◌, ℤ, Option, Some, Bool};
 ghost use Rattle.edm_values.specs.PlainVal.{plain_val};
+ghost use Rattle.edm_values.specs.Sparse.{beside};
+ghost use Rattle.edm_values.specs.declared.value.Value.{Null};
 ghost use Rattle.odata_functions.specs.DatumVal.{Reading, datum_val};
 ghost use Rattle.odata_filter_operations.specs.CalculationGives.{number_val};
 ghost use Rattle.odata_filter_operations.specs.TruthGives.{truth_val};
@@ -24,6 +26,7 @@ pub fn datum_of(value: &Value) -> Datum<'_>
         Value::Guid(g) => Datum::Guid(*g),
         Value::Enum(n) => Datum::Enum(*n),
         Value::Record(fields) => Datum::Record(fields.as_slice()),
+        Value::Sparse(held) => Datum::Sparse(held.as_slice()),
         Value::List(items) => Datum::List(items.as_slice()),
     }
 }
@@ -52,6 +55,19 @@ pub fn kept_truth(value: &Value) -> Option<bool>
     }
 }
 
+/// What stands beside a slot; null where nothing does.
+fn datum_beside(held: &[(usize, Value)], slot: usize) -> Datum<'_>
+    ensures { IsDatumOf (beside Null held.now slot) result }
+{
+    for place in 0..held.len() {
+        let one = &held[place];
+        if one.0 == slot {
+            return datum_of(&one.1);
+        }
+    }
+    Datum::Null
+}
+
 /// Returns what a record has in a slot; null of null.
 pub fn step<'e>(base: Datum<'e>, slot: usize) -> Datum<'e>
     requires { HasSlot base slot }
@@ -59,6 +75,7 @@ pub fn step<'e>(base: Datum<'e>, slot: usize) -> Datum<'e>
 {
     match base {
         Datum::Record(fields) => datum_of(&fields[slot]),
+        Datum::Sparse(held) => datum_beside(held, slot),
         _ => Datum::Null,
     }
 }

@@ -86,6 +86,7 @@ module _ (l r k s : Reading) where
   same_equality (datum.Guid a) (datum.Guid b) h = h
   same_equality (datum.Enum a) (datum.Enum b) h = h
   same_equality (datum.Record a) (datum.Record b) h = h
+  same_equality (datum.Sparse a) (datum.Sparse b) h = h
   same_equality (datum.List a) (datum.List b) h = h
   same_equality _ _ h = h
 
@@ -99,6 +100,7 @@ module _ (l r k s : Reading) where
   same_order (datum.Guid a) (datum.Guid b) h = h
   same_order (datum.Enum a) (datum.Enum b) h = h
   same_order (datum.Record a) (datum.Record b) h = h
+  same_order (datum.Sparse a) (datum.Sparse b) h = h
   same_order (datum.List a) (datum.List b) h = h
   same_order _ _ h = h
 

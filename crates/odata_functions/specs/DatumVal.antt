@@ -7,9 +7,11 @@ use Rattle.edm_values.specs.declared.value.Value.{Value}
 use Rattle.edm_values.specs.declared.datum.Datum.{Datum}
 use Rattle.edm_values.specs.declared.datum.Datum.TheVariants as datum
 
--- how the values of a record and of a list are read: by their type, which they do not hold themselves
+-- how the values of a record, by slot or beside their slots, and of a list are read: by their type, which they do not
+-- hold themselves
 pub record Reading : Type 0 where
   pub fields_of : List Value → List ℕ → FieldVal
+  pub fields_beside : List (ℕ × Value) → List ℕ → FieldVal
   pub items_of : List Value → Vals
 
 -- the value that is passed on, with that reading of a record or a list
@@ -23,4 +25,5 @@ datum_val reading (datum.Moment m) = moment m
 datum_val reading (datum.Guid bytes) = guid bytes
 datum_val reading (datum.Enum n) = member n
 datum_val reading (datum.Record held) = fields (reading.fields_of held.now)
+datum_val reading (datum.Sparse held) = fields (reading.fields_beside held.now)
 datum_val reading (datum.List held) = items (reading.items_of held.now)

@@ -2,7 +2,7 @@
 use Rattle.std.specs.Prelude.{ℕ, ℤ, List, string_bytes, Option, Some, None}
 use Rattle.edm_values.specs.Val.{Val, null, boolean, whole, text, date, moment, guid, member, fields, items}
 use Rattle.edm_values.specs.Val.{FieldVal, Vals}
-use Rattle.edm_values.specs.declared.value.Value.{Value, Null, Bool, Int, Text, Date, Moment, Guid, Enum, Record', List'}
+use Rattle.edm_values.specs.declared.value.Value.{Value, Null, Bool, Int, Text, Date, Moment, Guid, Enum, Record', Sparse', List'}
 
 -- what a record has under its names, and a list for its items
 pub record Contents : Type 0 where
@@ -20,6 +20,7 @@ kept_val contents (Moment m) = moment m
 kept_val contents (Guid bytes) = guid bytes
 kept_val contents (Enum n) = member n
 kept_val contents (Record' _ _) = fields contents.fields_are
+kept_val contents (Sparse' _ _) = fields contents.fields_are
 kept_val contents (List' _ _) = items contents.items_are
 
 -- a whole number, or null for none

@@ -33,7 +33,7 @@ fn have_equality(left: &Datum<'_>, right: &Datum<'_>) -> bool
         Datum::Moment(_) => matches!(right, Datum::Moment(_) | Datum::Null),
         Datum::Guid(_) => matches!(right, Datum::Guid(_) | Datum::Null),
         Datum::Enum(_) => matches!(right, Datum::Enum(_) | Datum::Null),
-        Datum::Record(_) => matches!(right, Datum::Null),
+        Datum::Record(_) | Datum::Sparse(_) => matches!(right, Datum::Null),
         Datum::List(_) => false,
     }
 }
@@ -57,6 +57,7 @@ fn have_order(left: &Datum<'_>, right: &Datum<'_>) -> bool
         Datum::Text(_) => matches!(right, Datum::Text(_) | Datum::Null),
         Datum::Date(_) => matches!(right, Datum::Date(_) | Datum::Null),
         Datum::Moment(_) => matches!(right, Datum::Moment(_) | Datum::Null),
-        Datum::Guid(_) | Datum::Enum(_) | Datum::Record(_) | Datum::List(_) => false,
+        Datum::Guid(_) | Datum::Enum(_) | Datum::Record(_) | Datum::Sparse(_) | Datum::List(_) =>
+            false,
     }
 }

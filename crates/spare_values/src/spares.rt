@@ -130,6 +130,15 @@ impl Spares {
         };
     }
 
+    /// Puts a record of few values instead of another one, which is stored.
+    #[inline(never)]
+    pub fn put_few(&mut self, spare: Spare, held: Vec<(usize, Value)>, value: &mut Value)
+        ensures { value.new ≡ Value.Sparse held }
+    {
+        let old = mem::replace(value, Value::Sparse(held));
+        self.keep(spare, old);
+    }
+
     /// Makes sure that a slot holds a list of small capacity. It has no clause: `list_in` says what the slot holds.
     #[inline(always)]
     pub fn begin_list(&mut self, value: &mut Value) {
@@ -196,6 +205,7 @@ fn is_small(value: &Value, depth: usize) -> bool {
     match value {
         Value::Text(text) => text.capacity() <= TEXT_ROOM,
         Value::Record(values) => depth > 0 && are_small(values, depth - 1),
+        Value::Sparse(_) => false,
         Value::List(items) => {
             depth > 0 && items.capacity() <= SMALL_LIST && are_small(items, depth - 1)
         }

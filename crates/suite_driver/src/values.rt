@@ -17,6 +17,7 @@ fn push_value(text: &mut String, value: &Value) -> Result<(), AllocError> {
         Value::Guid(guid) => write_guid(text, *guid),
         Value::Enum(number) => write_int(text, *number),
         Value::Record(items) => push_values(text, "{", items.as_slice(), "}"),
+        Value::Sparse(held) => push_few(text, held.as_slice()),
         Value::List(items) => push_values(text, "[", items.as_slice(), "]"),
     }
 }
@@ -38,6 +39,17 @@ fn push_values(
         is_first = false;
     }
     text.push_str(after)
+}
+
+/// Appends the values of a record of few, each after its slot.
+#[cycle(push)]
+fn push_few(text: &mut String, held: &[(usize, Value)]) -> Result<(), AllocError> {
+    text.push('{')?;
+    for one in held {
+        write!(text, " {}: ", one.0)?;
+        push_value(text, &one.1)?;
+    }
+    text.push('}')
 }
 
 /// Appends the values of a record in slot order.

@@ -4,7 +4,7 @@ use Rattle.serde_json.specs.Data.{Data}
 use Rattle.edm_values.specs.Val.{Val, fields, items, FieldVal, Vals}
 use Rattle.edm_values.specs.declared.primitive.PrimitiveType.{PrimitiveType}
 use Rattle.edm_values.specs.declared.primitive.PrimitiveType.TheVariants.{Bool as EdmBoolean, Byte, SByte, Int16, Int32, Int64, String as EdmString, Date as EdmDate, DateTimeOffset as EdmDateTimeOffset, Guid as EdmGuid}
-use Rattle.edm_values.specs.declared.value.Value.{Value, Null, Bool as BoolValue, Int, Text, Date, Moment, Guid, Enum, Record, Record', List as ListOf, List', fold_out-Value, the_lemmas}
+use Rattle.edm_values.specs.declared.value.Value.{Value, Null, Bool as BoolValue, Int, Text, Date, Moment, Guid, Enum, Record, Record', Sparse', List as ListOf, List', fold_out-Value, the_lemmas}
 use Rattle.edm_values.specs.declared.value.Value as views
 use Rattle.edm_enumerations.specs.EnumerationModel.{EnumerationModel}
 use Rattle.csdl_schema.specs.ExprType.{ExprType, null_type, single, collection, SingleType, primitive, enumeration, structured}
@@ -69,6 +69,14 @@ record_val slots (single (enumeration name)) shape all = (_, ap (λ (f : ValAtTy
 record_val slots (single (structured name)) shape all = (_, ap (λ (f : ValAtType). f slots.properties (single (structured name))) (fold_out-Value ValAtType val_step (Record' shape all)))
 record_val slots (collection t) shape all = (_, ap (λ (f : ValAtType). f slots.properties (collection t)) (fold_out-Value ValAtType val_step (Record' shape all)))
 
+sparse_val : (slots : Slots) (type : ExprType) (shape : _) (all : _) → (names : List ℕ → FieldVal) × (val_of (Sparse' shape all) slots.properties type ≡ fields names)
+unfolding views.out-Value denote.Hole.Carrier.out
+sparse_val slots null_type shape all = (_, ap (λ (f : ValAtType). f slots.properties null_type) (fold_out-Value ValAtType val_step (Sparse' shape all)))
+sparse_val slots (single (primitive p)) shape all = (_, ap (λ (f : ValAtType). f slots.properties (single (primitive p))) (fold_out-Value ValAtType val_step (Sparse' shape all)))
+sparse_val slots (single (enumeration name)) shape all = (_, ap (λ (f : ValAtType). f slots.properties (single (enumeration name))) (fold_out-Value ValAtType val_step (Sparse' shape all)))
+sparse_val slots (single (structured name)) shape all = (_, ap (λ (f : ValAtType). f slots.properties (single (structured name))) (fold_out-Value ValAtType val_step (Sparse' shape all)))
+sparse_val slots (collection t) shape all = (_, ap (λ (f : ValAtType). f slots.properties (collection t)) (fold_out-Value ValAtType val_step (Sparse' shape all)))
+
 list_val : (slots : Slots) (type : ExprType) (shape : _) (all : _) → (held : Vals) × (val_of (List' shape all) slots.properties type ≡ items held)
 unfolding views.out-Value denote.Hole.Carrier.out
 list_val slots null_type shape all = (_, ap (λ (f : ValAtType). f slots.properties null_type) (fold_out-Value ValAtType val_step (List' shape all)))
@@ -85,6 +93,7 @@ leaf_holds slots type (Moment m) leaf = search (rules, the_lemmas)
 leaf_holds slots type (Guid g) leaf = search (rules, the_lemmas)
 leaf_holds slots type (Enum n) leaf = search (rules, the_lemmas)
 leaf_holds slots type (Record' shape all) leaf = let seen = record_val slots type shape all in absurd (subst IsLeaf seen.1 leaf)
+leaf_holds slots type (Sparse' shape all) leaf = let seen = sparse_val slots type shape all in absurd (subst IsLeaf seen.1 leaf)
 leaf_holds slots type (List' shape all) leaf = let seen = list_val slots type shape all in absurd (subst IsLeaf seen.1 leaf)
 
 pub primitive_holds : (slots : Slots) (type : PrimitiveType) (json : Data) (v : Value) → FitsPrimitive type json (val_of v slots.properties (single (primitive type)))

@@ -36,6 +36,7 @@ use Rattle.odata_eval.proofs.walking.WalkValues.{value_has}
 -- the kinds of arguments are plain, so they are read alike everywhere
 argument_read : (r s : Reading) (kind : ArgumentKind) (answer : Datum) → IsArgument kind (datum_val r answer) → datum_val r answer ≡ datum_val s answer
 argument_read r s kind (datum.Record held) is = absurd is
+argument_read r s kind (datum.Sparse held) is = absurd is
 argument_read r s kind (datum.List held) is = absurd is
 argument_read r s kind _ is = refl
 

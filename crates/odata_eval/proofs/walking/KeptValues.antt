@@ -3,7 +3,7 @@ use Rattle.std.proofs.Common.{◌≡◌, ◌∙◌, ℕ, List, Some, ap, refl, s
 use Rattle.std.specs.Prelude.{string_bytes}
 use Rattle.edm_values.specs.PlainVal.{plain_val}
 use Rattle.edm_values.specs.Val.{Val, null, boolean, whole, text, date, moment, guid, member, fields, items, FieldVal, absent, Vals, no_items}
-use Rattle.edm_values.specs.declared.value.Value.{Value, Null, Bool as BoolValue, Int, Text, Date, Moment, Guid, Enum, Record', List', fold_out-Value}
+use Rattle.edm_values.specs.declared.value.Value.{Value, Null, Bool as BoolValue, Int, Text, Date, Moment, Guid, Enum, Record', Sparse', List', fold_out-Value}
 use Rattle.edm_values.specs.declared.value.Value as views
 use Rattle.csdl_schema.specs.ExprType.{ExprType, null_type, single, collection, primitive, enumeration, structured}
 use Rattle.csdl_schema.specs.SchemaModel.{Slots, slots_of}
@@ -27,6 +27,14 @@ record_kept slots (single (enumeration name)) shape all = (_, ap (λ (f : ValAtT
 record_kept slots (single (structured name)) shape all = (_, ap (λ (f : ValAtType). f slots.properties (single (structured name))) (fold_out-Value ValAtType val_step (Record' shape all)))
 record_kept slots (collection t) shape all = (_, ap (λ (f : ValAtType). f slots.properties (collection t)) (fold_out-Value ValAtType val_step (Record' shape all)))
 
+sparse_kept : (slots : Slots) (type : ExprType) (shape : _) (all : _) → (names : List ℕ → FieldVal) × (val_of (Sparse' shape all) slots.properties type ≡ fields names)
+unfolding views.out-Value denote.Hole.Carrier.out
+sparse_kept slots null_type shape all = (_, ap (λ (f : ValAtType). f slots.properties null_type) (fold_out-Value ValAtType val_step (Sparse' shape all)))
+sparse_kept slots (single (primitive p)) shape all = (_, ap (λ (f : ValAtType). f slots.properties (single (primitive p))) (fold_out-Value ValAtType val_step (Sparse' shape all)))
+sparse_kept slots (single (enumeration name)) shape all = (_, ap (λ (f : ValAtType). f slots.properties (single (enumeration name))) (fold_out-Value ValAtType val_step (Sparse' shape all)))
+sparse_kept slots (single (structured name)) shape all = (_, ap (λ (f : ValAtType). f slots.properties (single (structured name))) (fold_out-Value ValAtType val_step (Sparse' shape all)))
+sparse_kept slots (collection t) shape all = (_, ap (λ (f : ValAtType). f slots.properties (collection t)) (fold_out-Value ValAtType val_step (Sparse' shape all)))
+
 list_kept : (slots : Slots) (type : ExprType) (shape : _) (all : _) → (held : Vals) × (val_of (List' shape all) slots.properties type ≡ items held)
 unfolding views.out-Value denote.Hole.Carrier.out
 list_kept slots null_type shape all = (_, ap (λ (f : ValAtType). f slots.properties null_type) (fold_out-Value ValAtType val_step (List' shape all)))
@@ -48,6 +56,9 @@ kept_contents slots type (Guid g) = (without, plain_is slots type (Guid g) (guid
 kept_contents slots type (Enum n) = (without, plain_is slots type (Enum n) (member n) refl)
 kept_contents slots type (Record' shape all) =
     let names = record_kept slots type shape all in
+    (record { fields_are = names.0; items_are = no_items }, names.1)
+kept_contents slots type (Sparse' shape all) =
+    let names = sparse_kept slots type shape all in
     (record { fields_are = names.0; items_are = no_items }, names.1)
 kept_contents slots type (List' shape all) =
     let held = list_kept slots type shape all in
@@ -71,6 +82,7 @@ at_contents P slots s t left right is =
 -- so a value that stands for one without parts is that one
 plain_contents : (contents : Contents) (value : Value) (v : Val) → IsPlain v → kept_val contents value ≡ v → plain_val value ≡ Some v
 plain_contents contents (Record' shape all) v plain is = absurd (subst IsPlain (sym is) plain)
+plain_contents contents (Sparse' shape all) v plain is = absurd (subst IsPlain (sym is) plain)
 plain_contents contents (List' shape all) v plain is = absurd (subst IsPlain (sym is) plain)
 plain_contents contents _ v plain is = ap Some is
 

@@ -1,16 +1,14 @@
 -- What a node without operands evaluates to: the value that is stored for it.
-use Rattle.std.proofs.Common.{◌≡◌, ◌∙◌, ◌+◌, ℕ, ◌<◌, ◌≤◌, [], ◌∷◌, arith, inl, inr, refl, subst, sym, ℤ, List, MatchOption, Option, false, Some, length, nat_eq, ap, rules}
+use Rattle.std.proofs.Common.{◌≡◌, ◌∙◌, ◌+◌, ℕ, ◌<◌, ◌≤◌, [], ◌∷◌, arith, inl, inr, refl, subst, sym, ℤ, List, MatchOption, Option, Some, length, ap, rules}
 use Rattle.std.specs.Prelude.{IsSomeAnd, slice_get, string_bytes}
-use Rattle.std.specs.Cmp.Lexicographic.{pointwise}
 use Rattle.std.proofs.lemmas.Option.{slice_get_within}
-use Rattle.std.proofs.lemmas.List.Quantifiers.{position-Some}
 use Rattle.edm_values.specs.PlainVal.{plain_val}
 use Rattle.edm_values.specs.Val.{Val, null, boolean, whole, text, date, moment, guid, member}
-use Rattle.edm_values.specs.declared.value.Value.{Value, Null, Bool, Int, Text, Date, Moment, Guid, Enum, Record', List', the_lemmas}
+use Rattle.edm_values.specs.declared.value.Value.{Value, Null, Bool, Int, Text, Date, Moment, Guid, Enum, Record', Sparse', List', the_lemmas}
 use Rattle.odata_syntax.specs.Tree.{Tree, Trees, literal, more_trees, name, no_trees, node}
 use Rattle.odata_syntax.specs.declared.node.LiteralKind.{LiteralKind}
 use Rattle.csdl_schema.specs.ExprType.{ExprType}
-use Rattle.csdl_schema.specs.SchemaModel.{PropertyModel, Slots, opaque, properties_at, slot_named, slots_of}
+use Rattle.csdl_schema.specs.SchemaModel.{Slots, properties_at, slots_of}
 use Rattle.edm_entities.specs.Row.{val_of, value_of}
 use Rattle.odata_signatures.specs.Typed.{PropertyTyped, variable_type}
 use Rattle.odata_checked_filter.specs.declared.checked_node.NodeKind.{NodeKind}
@@ -31,7 +29,7 @@ use Rattle.odata_eval.proofs.walking.Extents.{stops_here}
 use Rattle.odata_eval.proofs.walking.Operands.{NumberThere, no_number, number_there, one_kind, tree_of_kind}
 use Rattle.odata_eval.proofs.walking.Parts.{by_kind, found_there, inside, kind_there}
 use Rattle.odata_eval.proofs.walking.Spines.{MeanAll, TypedAll, only_now}
-use Rattle.odata_eval.proofs.walking.SlotValue.{slot_value}
+use Rattle.odata_eval.proofs.walking.SlotValue.{named_within, slot_value}
 use Rattle.odata_eval.proofs.walking.Variables.{level_below, unbound, variable_gives}
 
 -- a value without parts stands for the same at each type
@@ -45,11 +43,8 @@ plain_is slots type (Moment m) v is = let same : val_of (Moment m) slots.propert
 plain_is slots type (Guid g) v is = let same : val_of (Guid g) slots.properties type ≡ guid g = search (rules, the_lemmas) in cc
 plain_is slots type (Enum n) v is = let same : val_of (Enum n) slots.properties type ≡ member n = search (rules, the_lemmas) in cc
 plain_is slots type (Record' shape all) v is = absurd (cc)
+plain_is slots type (Sparse' shape all) v is = absurd (cc)
 plain_is slots type (List' shape all) v is = absurd (cc)
-
-slot_below : (asked : List ℕ) (slot : ℕ) (properties : List PropertyModel) → slot_named properties asked ≡ Some slot → slot < length properties
-slot_below asked slot properties named =
-    (position-Some (λ p. pointwise nat_eq asked p.name) properties slot (record { name = []; type_of = opaque; many = false; nullable = false }) named).0
 
 module _ (context : ContextModel) (place : ℕ) where
   -- a literal has a value: its own, or its number
@@ -156,7 +151,7 @@ module _ (context : ContextModel) (place : ℕ) where
       let part = tree_of_kind context place (NodeKind.Property slot) tt here operand in
       by_kind context place (NodeKind.Property slot) here (λ stop tree. slot < length (properties_at context.row.schema context.row.type_id))
       (λ asked stop from to stands.
-      slot_below asked slot (properties_at context.row.schema context.row.type_id) (kind_there context place (NodeKind.Property slot) here stop from to (name asked) stands).1)
+      named_within asked (properties_at context.row.schema context.row.type_id) slot (kind_there context place (NodeKind.Property slot) here stop from to (name asked) stands).1)
       part.stop part.tree part.stands
 
   -- it has no children

@@ -1,10 +1,11 @@
 -- What a step to a property evaluates to.
-use Rattle.std.proofs.Common.{◌≡◌, ℕ, ◌<◌, ◌+◌, Bor, List, Some, Ok, length, map, refl, sym, subst}
+use Rattle.std.proofs.Common.{◌≡◌, ℕ, ◌<◌, ◌+◌, Bor, List, Some, Ok, arith, length, map, refl, sym, subst}
 use Rattle.std.specs.Prelude.{slice_get}
 use Rattle.edm_values.specs.Val.{Val, fields}
 use Rattle.edm_values.specs.declared.datum.Datum.{Datum}
 use Rattle.edm_values.specs.declared.datum.Datum.TheVariants as datum
-use Rattle.edm_values.specs.declared.value.Value.{Value}
+use Rattle.edm_values.specs.Sparse.{beside, by_slot}
+use Rattle.edm_values.specs.declared.value.Value.{Value, Null}
 use Rattle.odata_syntax.specs.Tree.{member}
 use Rattle.csdl_schema.specs.ExprType.{ExprType, single, structured}
 use Rattle.csdl_schema.specs.SchemaModel.{Slots, slot_named, slots_of, type_name_at}
@@ -28,7 +29,7 @@ use Rattle.odata_meaning.proofs.meaning.TypeValues.{held_present}
 use Rattle.odata_eval.proofs.walking.Children.{only_child}
 use Rattle.odata_eval.proofs.walking.Operands.{no_number}
 use Rattle.odata_eval.proofs.walking.Parts.{by_kind, kind_there, some_there}
-use Rattle.odata_eval.proofs.walking.SlotValue.{field_at, found_slot, slot_within}
+use Rattle.odata_eval.proofs.walking.SlotValue.{field_at, found_slot, named_within, slot_beside, slot_within}
 use Rattle.odata_eval.proofs.walking.WalkValues.{value_has}
 
 slot_in : (slots : Slots) (name asked : List ℕ) (slot : ℕ) (type : ExprType) (made : Datum)
@@ -39,6 +40,7 @@ slot_in slots name asked slot type (datum.Record held) named typed has =
     let there = held_present slots asked type (slots.properties name) (field_by_name slots.properties (slots.properties name) (map val_of held.now)) has typed in
     subst (λ (k : ℕ). k < length held.now) (found_slot _ _ slot named)
     (slot_within slots asked type (slots.properties name) held.now typed there.0 there.1.0)
+slot_in slots name asked slot type (datum.Sparse held) named typed has = tt
 slot_in slots name asked slot type _ named typed has = absurd has
 
 step_gives : (slots : Slots) (name asked : List ℕ) (slot : ℕ) (type : ExprType) (made stepped : Datum)
@@ -50,6 +52,12 @@ step_gives slots name asked slot type (datum.Record held) stepped named typed is
     let here = field_at slots (slots.properties name) asked slot type held.now there.0 named typed there.1.0 in
     subst (λ (v : Val). StepGives (fields (field_by_name slots.properties (slots.properties name) (map val_of held.now))) asked (gives v)) (sym (there.1.1 slots type))
     (field_gives (field_by_name slots.properties (slots.properties name) (map val_of held.now)) asked (val_of there.0 slots.properties type) here)
+step_gives slots name asked slot type (datum.Sparse held) stepped named typed is =
+    let properties = slots.properties name in
+    let values = by_slot Null held.now 0 (length properties) in
+    let here = field_at slots properties asked slot type values (beside Null held.now slot) named typed (slot_beside held.now 0 (length properties) slot slot (omega arith) (named_within asked properties slot named)) in
+    subst (λ (v : Val). StepGives (fields (field_by_name slots.properties properties (map val_of values))) asked (gives v)) (sym (is slots type))
+    (field_gives (field_by_name slots.properties properties (map val_of values)) asked (val_of (beside Null held.now slot) slots.properties type) here)
 step_gives slots name asked slot type _ stepped named typed is = absurd is
 
 -- what a kept record holds in the slot

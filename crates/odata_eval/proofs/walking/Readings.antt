@@ -27,6 +27,7 @@ IsPlain _ = Unit {0}
 
 read_alike : (r s : Reading) (d : Datum) → IsPlain (datum_val r d) → datum_val r d ≡ datum_val s d
 read_alike r s (datum.Record held) plain = absurd plain
+read_alike r s (datum.Sparse held) plain = absurd plain
 read_alike r s (datum.List held) plain = absurd plain
 read_alike r s _ plain = refl
 

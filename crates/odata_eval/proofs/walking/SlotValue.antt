@@ -1,5 +1,5 @@
 -- The value in a property's slot is the record's value of the property's name.
-use Rattle.std.proofs.Common.{◌≡◌, ◌∙◌, ℕ, ◌<◌, ◌+◌, List, [], ◌∷◌, true, false, cond, not, map, Option, Some, None, length, slice_get, refl, rules, sym, ap, subst, nat_eq, one-add, arith}
+use Rattle.std.proofs.Common.{◌≡◌, ◌∙◌, ℕ, zero, suc, ◌<◌, ◌+◌, List, [], ◌∷◌, true, false, cond, not, map, Option, Some, None, length, slice_get, refl, rules, sym, ap, subst, nat_eq, one-add, arith}
 use Rattle.std.specs.Prelude.{IsSomeAnd, Vec, Bool as Truth}
 use Rattle.std.specs.List.{position_or_len}
 use Rattle.std.specs.declared.alloc.Global.{Global}
@@ -7,7 +7,9 @@ use Rattle.std.specs.Cmp.Lexicographic.{pointwise}
 use Rattle.std.proofs.lemmas.Bool.Decides.{same_from_decides, Decides-like}
 use Rattle.std.proofs.lemmas.Slice.Eq.{bytes_eq-Decides}
 use Rattle.edm_values.specs.Val.{Val, fields, FieldVal, present}
-use Rattle.edm_values.specs.declared.value.Value.{Value, Record, the_lemmas}
+use Rattle.std.proofs.lemmas.List.Quantifiers.{position-Some}
+use Rattle.edm_values.specs.Sparse.{beside, by_slot}
+use Rattle.edm_values.specs.declared.value.Value.{Value, Null, Record, the_lemmas}
 use Rattle.csdl_schema.specs.ExprType.{ExprType, single, structured}
 use Rattle.csdl_schema.specs.SchemaModel.{Slots, PropertyModel, PropertyType, declared, opaque, navigation, slot_named, slots_of, properties_at, type_name_at}
 use Rattle.edm_entities.specs.Row.{Row, val_of, value_of, field_of, field_by_name, record_of}
@@ -68,6 +70,17 @@ pub field_at : (slots : Slots) (properties : List PropertyModel) (asked : List �
 field_at slots properties asked slot type values v named typed at =
     let position : position_or_len (λ p. pointwise nat_eq asked p.name) properties ≡ slot = found_slot _ _ slot named in
     held_at slots asked type v properties values (subst (λ (n : ℕ). slice_get values n ≡ Some v) (sym position) at) typed
+
+-- a slot that has a name is one of the type's
+pub named_within : (asked : List ℕ) (properties : List PropertyModel) (slot : ℕ) → slot_named properties asked ≡ Some slot → slot < length properties
+named_within asked properties slot named =
+    (position-Some (λ p. pointwise nat_eq asked p.name) properties slot (record { name = []; type_of = opaque; many = false; nullable = false }) named).0
+
+-- what stands beside a slot is its value among those of all slots
+pub slot_beside : (held : List (ℕ × Value)) (from count slot at : ℕ) → from + slot ≡ at → slot < count → slice_get (by_slot Null held from count) slot ≡ Some (beside Null held at)
+slot_beside held from zero slot at is less = absurd (omega (arith, less))
+slot_beside held from (suc count) zero at is less = let same : from ≡ at = omega (arith, is) in ap (λ k. Some (beside Null held k)) same
+slot_beside held from (suc count) (suc slot) at is less = slot_beside held (suc from) count slot at (omega (arith, is)) (omega (arith, less))
 
 -- of the entity
 pub slot_value : (row : Row) (slot : ℕ) (v : Value) (asked : List ℕ) (type : ExprType) → HoldsAt row slot v

@@ -19,7 +19,7 @@ use Rattle.odata_filter_operations.specs.Operators.{AreNumbers, IsOneNumber}
 
 -- a reading and a schema, for facts of all of them
 pub one_reading : Reading
-one_reading = record { fields_of = λ held asked. absent; items_of = λ held. no_items }
+one_reading = record { fields_of = λ held asked. absent; fields_beside = λ held asked. absent; items_of = λ held. no_items }
 
 pub one_schema : SchemaModel
 one_schema = record { types = [] }

@@ -15,15 +15,18 @@ use Rattle.edm_entities.specs.Row.{field_of, val_of}
 use Rattle.edm_entities.specs.RowFaults.{Path, IsFoundFault, IsValueFault, IsPropertyFault}
 use Rattle.edm_entities.specs.private.Faults.{IsFaultOf}
 use Rattle.edm_row_plans.specs.Expanded.{slots_at, slots_in, wanted_with}
-use Rattle.edm_entities.specs.private.Walk.{HoldsInSlot, wanted_single}
+use Rattle.edm_entities.specs.private.Walk.{FitsSlot, HoldsInSlot, wanted_single}
 use Rattle.edm_entities.specs.declared.flaw.ReadFlaw.TheVariants as code
-use Rattle.edm_values.specs.declared.value.Value.{Null, Record}
+use Rattle.edm_values.specs.Sparse.{IsRecordOf}
+use Rattle.edm_values.specs.declared.value.Value.{Null}
 use Rattle.edm_entities.proofs.SlotLemmas.Depth.{found_measure, found_less, item_within, measure_of, rank_found, rank_single, rank_slots}
 use Rattle.edm_entities.proofs.SlotLemmas.EachSlot.{IsLookedAt, null_holds, null_in_slot, held_seen, primitive_holds, member_holds, slots_held, list_held, holds_push, holds_as}
 use Rattle.edm_entities.proofs.SlotLemmas.FaultsBelow.{fault_by}
+use Rattle.edm_entities.proofs.SlotLemmas.FewSlots.{record_held, record_val}
 use Rattle.edm_entities.proofs.SlotLemmas.FoundWalk.{ok_by, err_by, reported_here, other_fits, other_fault, null_fits, null_flaw, type_wanted, seen_as, items_as, items_null, ok_seen, err_seen, unwanted_fits, nothing_fits, nothing_missing, nothing_expanded, node_slots}
 use Rattle.edm_entities.proofs.SlotLemmas.ItemWalk.{item_there, list_push, list_fault}
 use Rattle.edm_entities.proofs.SlotLemmas.ReadEntities.{slots_fit}
+use Rattle.edm_entities.proofs.SlotLemmas.SlotsByName.{as_many}
 use Rattle.edm_entities.proofs.SlotLemmas.SlotWalk.{slot_pushed, slots_fault}
 use Rattle.edm_entities.proofs.SlotLemmas.ValueWalk.{leaf_fits, leaf_fault, read_as, value_as, record_fault, array_fits, array_fault, none_of}
 use Rattle.edm_entities.proofs.json_walk.+walk.Goals as goal
@@ -244,14 +247,36 @@ read_value-returns-in-Enum-clause-fault t c nullable =
 
 pub read_value-returns-in_ok-values-in-Complex-clause-fits : goal.read_value-returns-in_ok-values-in-Complex-clause-fits
 read_value-returns-in_ok-values-in-Complex-clause-fits t c nullable =
-    value_as (slots_in c.args.context.now c.args.node) nullable (view c.args.json.now) (wanted_single c.args.context.now.schema.now c.args.wanted.now) (structured (type_name_at c.args.context.now.schema.now c.in-Complex.id))
-    (Record c.in_ok-values-in-Complex.values) (ap (wanted_single c.args.context.now.schema.now) c.in-Complex.is)
-    (slots_fit (slots_in c.args.context.now c.args.node) (type_name_at c.args.context.now.schema.now c.in-Complex.id) nullable (view c.args.json.now) c.in_ok-values-in-Complex.values c.in_ok-values-in-Complex.ensures.distinct c.in_ok-values-in-Complex.ensures.object c.in_ok-values-in-Complex.ensures.fits)
+    let slots = slots_in c.args.context.now c.args.node in
+    let schema = c.args.context.now.schema.now in
+    let name = type_name_at schema c.in-Complex.id in
+    let values = c.in_ok-values-in-Complex.values in
+    let read = c.in_ok-values-in-Complex.ensures in
+    let long = as_many (FitsSlot slots (λ found. get found (view c.args.json.now))) (slots.properties name) values.items read.fits in
+    let fits = slots_fit slots name nullable (view c.args.json.now) values read.distinct read.object read.fits in
+    let type = single (wanted_single schema c.args.wanted.now) in
+    ok_by c.record_of.result (IsRecordOf values) (λ v. FitsType slots nullable type (view c.args.json.now) (val_of v slots.properties type))
+    (λ v is. value_as slots nullable (view c.args.json.now) (wanted_single schema c.args.wanted.now) (structured name) v (ap (wanted_single schema) c.in-Complex.is)
+    (subst (FitsType slots nullable (single (structured name)) (view c.args.json.now)) (sym (record_val slots name values long v is)) fits))
+    c.record_of.ensures.record
 
 pub read_value-returns-in_ok-values-in-Complex-clause-holds : goal.read_value-returns-in_ok-values-in-Complex-clause-holds
 read_value-returns-in_ok-values-in-Complex-clause-holds t c =
-    holds_as (slots_in c.args.context.now c.args.node) (wanted_single c.args.context.now.schema.now c.args.wanted.now) (structured (type_name_at c.args.context.now.schema.now c.in-Complex.id)) (Record c.in_ok-values-in-Complex.values)
-    (ap (wanted_single c.args.context.now.schema.now) c.in-Complex.is) (slots_held (slots_in c.args.context.now c.args.node) (type_name_at c.args.context.now.schema.now c.in-Complex.id) (λ name. get name (view c.args.json.now)) c.in_ok-values-in-Complex.values c.in_ok-values-in-Complex.ensures.fits)
+    let slots = slots_in c.args.context.now c.args.node in
+    let schema = c.args.context.now.schema.now in
+    let name = type_name_at schema c.in-Complex.id in
+    let values = c.in_ok-values-in-Complex.values in
+    let read = c.in_ok-values-in-Complex.ensures in
+    let long = as_many (FitsSlot slots (λ found. get found (view c.args.json.now))) (slots.properties name) values.items read.fits in
+    let holds = slots_held slots name (λ found. get found (view c.args.json.now)) values read.fits in
+    ok_by c.record_of.result (IsRecordOf values) (λ v. HoldsEachSlot v slots (single (wanted_single schema c.args.wanted.now)))
+    (λ v is. holds_as slots (wanted_single schema c.args.wanted.now) (structured name) v (ap (wanted_single schema) c.in-Complex.is) (record_held slots name values long v is holds))
+    c.record_of.ensures.record
+
+pub read_value-returns-in_ok-values-in-Complex-clause-fault : goal.read_value-returns-in_ok-values-in-Complex-clause-fault
+read_value-returns-in_ok-values-in-Complex-clause-fault t c nullable =
+    let P : (Path → Flaw → Type 0) = λ path flaw. IsValueFault (slots_in c.args.context.now c.args.node) nullable path (single (wanted_single c.args.context.now.schema.now c.args.wanted.now)) (view c.args.json.now) flaw in
+    err_by c.record_of.result (λ fault. (fault.path ≡ None) × (fault.flaw ≡ code.Memory)) (IsFaultOf P) (λ fault is. reported_here P fault code.Memory is.1 is.0 tt) c.record_of.ensures.fault
 
 pub read_value-returns-in_err-values-in-Complex-clause-fault : goal.read_value-returns-in_err-values-in-Complex-clause-fault
 read_value-returns-in_err-values-in-Complex-clause-fault t c nullable =

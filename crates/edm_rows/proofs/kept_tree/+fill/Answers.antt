@@ -1,4 +1,4 @@
-use Rattle.std.proofs.Common.{◌≡◌, ◌+◌, ◌-◌, ◌<◌, ◌≤◌, ℕ, length, get_or, slice_get, slice_set, drop, Some, IfSome, refl, sym, ap, ◌∙◌, subst, rules, arith}
+use Rattle.std.proofs.Common.{◌≡◌, inl, inr, ◌+◌, ◌-◌, ◌<◌, ◌≤◌, ℕ, length, get_or, slice_get, slice_set, drop, Some, Ok, IfSome, refl, sym, ap, ◌∙◌, subst, rules, arith}
 use Rattle.std.proofs.lemmas.Option.{slice_get_read}
 use Rattle.csdl_schema.specs.ExprType.{primitive}
 use Rattle.std.proofs.lemmas.List.{length-set, take_at}
@@ -121,8 +121,8 @@ fill_record-fill_members-end-requires g t c =
     let room = room_of context g.M.SeenSlots.most slot.record type c.requires.rooms at in
     search rules
 
-pub fill_record-returns-clause-filled : goal.fill_record-returns-clause-filled
-fill_record-returns-clause-filled g t c =
+pub fill_record-returns-in-Ok-Some-clause-filled : goal.fill_record-returns-in-Ok-Some-clause-filled
+fill_record-returns-in-Ok-Some-clause-filled g t c =
     let context = c.args.context.now in
     let slot = c.args.slot.now in
     let type : RowType = get_or context.types.now slot.record c.index-context-slot.result in
@@ -135,8 +135,29 @@ fill_record-returns-clause-filled g t c =
     let there = type_there context.schema.now context.plan.now.expansion context.plan.now.plans.items context.types.now slot type c.requires.context.0 (c.requires.slot.leads c.requires.item) at in
     let here = sym c.byte.ensures.here ∙ c.if-byte-ne123.false in
     let values = c.fill_members-end.new.values in
-    some_by c.fill_members-end.result (FillsMembers context type (depth - 1) values.items (i + 1)) (FillsValue context slot task.Record depth (RecordOf values) i)
-    (λ to members. record_filled context slot type there values depth i to (omega arith) (within_byte d i 123 here (λ e. omega arith)) (other_default d i 123 here (λ e. omega arith)) members) c.fill_members-end.ensures.filled
+    let few = rw c.in-Ok-Some.field-0-is at c.in-Ok-Some.ensures.few in
+    let value = c.put_few.new.value in
+    some_by c.fill_members-end.result (FillsMembers context type (depth - 1) values.items (i + 1)) (FillsValue context slot task.Record depth value i)
+    (λ to members. record_filled context slot type there values value (inr (c.in-Ok-Some.held, c.put_few.ensures, few)) depth i to (omega arith) (within_byte d i 123 here (λ e. omega arith)) (other_default d i 123 here (λ e. omega arith)) members) c.fill_members-end.ensures.filled
+
+pub fill_record-returns-in-Ok-None-clause-filled : goal.fill_record-returns-in-Ok-None-clause-filled
+fill_record-returns-in-Ok-None-clause-filled g t c =
+    let context = c.args.context.now in
+    let slot = c.args.slot.now in
+    let type : RowType = get_or context.types.now slot.record c.index-context-slot.result in
+    let d = context.line in
+    let i = c.args.place in
+    let depth = c.args.cache.now.depth in
+    let at : slice_get context.types.now slot.record ≡ Some type =
+    slice_get_read context.types.now (length context.types.now) slot.record c.index-context-slot.result refl (omega (arith, c.requires.context.0.count, (c.requires.slot.leads c.requires.item).within)) c.index-context-slot.is
+    ∙ ap Some c.index-context-slot.is in
+    let there = type_there context.schema.now context.plan.now.expansion context.plan.now.plans.items context.types.now slot type c.requires.context.0 (c.requires.slot.leads c.requires.item) at in
+    let here = sym c.byte.ensures.here ∙ c.if-byte-ne123.false in
+    let values = c.fill_members-end.new.values in
+    let now = c.take_few.new.values in
+    let same : now ≡ values = c.in-Ok-None.ensures.many (ap Ok c.in-Ok-None.field-0-is) in
+    some_by c.fill_members-end.result (FillsMembers context type (depth - 1) values.items (i + 1)) (FillsValue context slot task.Record depth (RecordOf now) i)
+    (λ to members. record_filled context slot type there values (RecordOf now) (inl (ap RecordOf same)) depth i to (omega arith) (within_byte d i 123 here (λ e. omega arith)) (other_default d i 123 here (λ e. omega arith)) members) c.fill_members-end.ensures.filled
 
 -- ---- arrays
 
