@@ -47,5 +47,5 @@ pub use made_text::{concat, to_lower, to_upper};
 pub use pair::{Compared, Pair};
 pub use promoting::{negation_type, promotion};
 pub use text_case::lower_starts_with;
-pub use text_parts::trim;
+pub use text_parts::{substring, trim};
 pub use text_search::{contains, ends_with, index_of, starts_with, text_length};

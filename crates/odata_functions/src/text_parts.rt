@@ -1,7 +1,7 @@
 //! Parts of a text, borrowed from it, and where they begin.
-ghost use Rattle.std.specs.Prelude.{◌≡◌};
+ghost use Rattle.std.specs.Prelude.{◌≡◌, MatchOption};
 ghost use Rattle.std.specs.Str.{chars};
-ghost use Rattle.odata_functions.specs.Texts.{IsTrimmed, from_zero};
+ghost use Rattle.odata_functions.specs.Texts.{IsTrimmed, from_zero, part_from, rest_from};
 ghost use Rattle.odata_functions.specs.private.Cuts.{IsOffset, IsRemaining};
 
 /// Returns the text without the white space at both ends (section 5.1.1.7.4).
@@ -9,6 +9,20 @@ pub fn trim(text: &str) -> &str
     ensures { IsTrimmed (chars text.now) (chars result.now) }
 {
     text.trim_start().trim_end()
+}
+
+/// Returns the text from an index on, or at most so many characters of that (section 5.1.1.5.7).
+///
+/// An index or a number below zero counts as zero. After the end of the text there is nothing.
+pub fn substring(text: &str, start: i64, most: Option<i64>) -> &str
+    ensures { MatchOption most (chars result.now ≡ rest_from start (chars text.now))
+        (λ most. chars result.now ≡ part_from start most (chars text.now)) }
+{
+    let rest = &text[offset_of(text, from_zero(start))..];
+    match most {
+        Some(most) => &rest[..offset_of(rest, from_zero(most))],
+        None => rest,
+    }
 }
 
 pub(crate) fn from_zero(n: i64) -> usize
