@@ -92,8 +92,8 @@ and
 and a text that begins with a hyphen as
 .BR \\-\\-filter=\\fITEXT\\fR .
 Of a query string no other option of the standard may stand beside the filter.
-Rows are read as they come, from a file or from standard input; the first faulty one ends the run, after the rows
-kept before it have been written.
+Rows are read as they come, from files or from standard input; the first faulty one ends the run, after the rows
+kept before it have been written, unless it is to be skipped.
 """
 
 

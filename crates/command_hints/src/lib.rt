@@ -1,16 +1,30 @@
-//! What a person at a terminal is shown about a filter that the program refuses.
+//! What is said of a run that failed, to a person or to a program, beside its line.
 //!
 //! ```rust
-//! use command_hints::refusal_hints;
+//! use command_hints::{FailedRun, failure_hints};
 //!
-//! if let Some(hints) = refusal_hints(alloc, &plan, document)? {
+//! let run = FailedRun { plan: &plan, document, failure: &failure, row: None };
+//! if let Some(hints) = failure_hints(alloc, &run)? {
 //!     eprintln!(rt; "{hints}")?;
 //! }
 //! ```
 #![tactic(auto)]
 
+mod accepted_object;
+mod entity_names;
+mod failed_run;
+mod failure_report;
+mod json_place;
 mod marked_text;
-mod refusal_report;
+mod near_types;
+mod reported_fault;
+mod row_hints;
+mod row_object;
+mod row_value;
 mod text_columns;
+mod unread_type;
 
-pub use refusal_report::refusal_hints;
+pub use accepted_object::accepted_json;
+pub use failed_run::FailedRun;
+pub use failure_report::{failure_hints, failure_json};
+pub use row_object::{bad_row_json, bad_row_name};

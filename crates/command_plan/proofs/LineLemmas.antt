@@ -2,3 +2,4 @@ pub mod CommandLineWorked
 pub mod Entered
 pub mod FlagLemmas
 pub mod PlanLemmas
+pub mod ReportsWorked

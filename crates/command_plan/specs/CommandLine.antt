@@ -4,9 +4,9 @@ use Rattle.std.specs.Prelude.{if◌then◌else◌, option_map, unwrap_or}
 use Rattle.std.specs.List.{list_any}
 use Rattle.std.specs.Option.{option_map_or}
 use Rattle.std.specs.Str.{bytes_eq}
-use Rattle.clap.specs.Words.{App, Row, Rule, Text, IsAmong, fault_of, first_of, kind_of, one_of}
+use Rattle.clap.specs.Words.{App, Row, Rule, Text, IsAmong, all_of, fault_of, first_of, kind_of, one_of}
 use Rattle.clap.specs.Words.{new_app, new_rule, subcommand_of, with_rule, with_subcommand}
-use Rattle.clap.specs.declared.builder.action.ArgAction.TheVariants.{Set, SetTrue}
+use Rattle.clap.specs.declared.builder.action.ArgAction.TheVariants.{Append, Set, SetTrue}
 use Rattle.command_plan.specs.declared.command_line.Plan.{Plan}
 use Rattle.command_plan.specs.declared.command_line.PlanFault.{PlanFault}
 use Rattle.command_plan.specs.declared.command_line.PlanFault.TheVariants.{Clap, OneOf, Memory}
@@ -26,14 +26,26 @@ text_rule name required = record (new_rule name) {
 abbrev pub flag_rule : Text → Rule
 flag_rule name = record (new_rule name) { long = Some name; action = Some SetTrue }
 
+-- with the options that say how a run reports
+abbrev pub formed_app : App → App
+formed_app app = with_rule (with_rule app (text_rule (codes "hints") false)) (text_rule (codes "format") false)
+
+-- an option `--name TEXT`, which the words may have several times
+abbrev pub repeated_rule : Text → Rule
+repeated_rule name = record (new_rule name) { long = Some name; action = Some Append; value_names = 1 }
+
+-- with the flags of runs over rows that may be at fault
+abbrev pub counting_app : App → App
+counting_app app = with_rule (with_rule app (flag_rule (codes "count"))) (flag_rule (codes "skip-faulty"))
+
 -- a subcommand with the options of every verb
 abbrev pub verb_app : Text → App
-verb_app word = with_rule (with_rule (with_rule (with_rule (new_app word)
+verb_app word = formed_app (with_rule (with_rule (with_rule (with_rule (new_app word)
     (text_rule (codes "schema") true)) (text_rule (codes "type") true))
-    (text_rule (codes "filter") false)) (text_rule (codes "query") false)
+    (text_rule (codes "filter") false)) (text_rule (codes "query") false))
 
--- the subcommands: `check`, `explain`, and `filter`, which may name its rows, say what stands for now, and say that the
--- rows are a collection
+-- the subcommands: `check`, `explain`, and `filter`, which may name its rows, say what stands for now, say that the rows
+-- are a collection, and what becomes of those at fault
 abbrev pub check_app : App
 check_app = verb_app (codes "check")
 
@@ -41,8 +53,8 @@ abbrev pub explain_app : App
 explain_app = verb_app (codes "explain")
 
 abbrev pub filter_app : App
-filter_app = with_rule (with_rule (with_rule (verb_app (codes "filter"))
-    (text_rule (codes "rows") false)) (text_rule (codes "now") false)) (flag_rule (codes "collection"))
+filter_app = counting_app (with_rule (with_rule (with_rule (verb_app (codes "filter"))
+    (repeated_rule (codes "rows"))) (text_rule (codes "now") false)) (flag_rule (codes "collection")))
 
 -- the subcommand of a verb, a row a verb
 abbrev pub app_of_verb : Verb → App
@@ -102,6 +114,10 @@ has_option verb name = list_any (λ rule. bytes_eq rule.id name) (app_of_verb ve
 -- the value that the words give an option, if the verb has it
 abbrev pub option_value : Verb → Text → List Row → Option Text
 option_value verb name found = if has_option verb name then first_of name found else None
+
+-- all the values that the words give an option, if the verb has it
+abbrev pub option_values : Verb → Text → List Row → List Text
+option_values verb name found = if has_option verb name then unwrap_or (all_of name found) [] else []
 
 -- the verb has the flag, and the words set it
 abbrev pub is_flag_set : Verb → Text → List Row → Bool

@@ -1,4 +1,5 @@
 pub use Rattle.clap.specs.Words as ClapWords
 pub mod CommandLine
+pub mod Requests
 pub mod WorkedLines
 pub mod private

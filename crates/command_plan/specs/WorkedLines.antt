@@ -67,3 +67,15 @@ whole_explain =
 
 abbrev pub explain_with_now : List Text
 explain_with_now = whole_explain ++ codes "--now=m" ∷ []
+
+-- with how a run reports
+abbrev pub with_reports : List Text
+with_reports = whole ++ codes "--hints=never" ∷ codes "--format" ∷ codes "json" ∷ []
+
+-- with another file of rows, and with what becomes of rows at fault
+abbrev pub with_more_rows : List Text
+with_more_rows = whole ++ codes "--rows" ∷ codes "q" ∷ codes "--count" ∷ codes "--skip-faulty" ∷ []
+
+-- `check` with how it reports
+abbrev pub check_with_hints : List Text
+check_with_hints = whole_check ++ codes "--hints" ∷ codes "later" ∷ []

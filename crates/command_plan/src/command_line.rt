@@ -22,6 +22,38 @@ pub struct Plan<'a> {
     pub collection: bool,
 }
 
+/// When sentences for people follow the lines of faults.
+#[derive(Clone, Copy, Debug, PartialEq, Eq)]
+pub enum Hints {
+    /// Where standard error is a terminal.
+    Auto,
+    Always,
+    Never,
+}
+
+/// In which form a run reports.
+#[derive(Clone, Copy, Debug, PartialEq, Eq)]
+pub enum Format {
+    /// Lines of text.
+    Text,
+    /// One JSON object a fault, and for an accepted filter.
+    Json,
+}
+
+/// A plan, and how a run of it reports.
+#[derive(Debug, Drop)]
+pub struct Request<'a> {
+    pub plan: Plan<'a>,
+    pub hints: Hints,
+    pub format: Format,
+    /// All files of rows, in their order; of these the plan has the first.
+    pub rows: Vec<&'a str>,
+    /// Whether the rows are counted.
+    pub count: bool,
+    /// Whether rows at fault are passed over.
+    pub skip_faulty: bool,
+}
+
 /// Why a command line has no plan. `Clap`'s text ends with a line feed, the others have none.
 #[derive(Debug, Drop, Error)]
 pub enum PlanFault {
@@ -34,4 +66,20 @@ pub enum PlanFault {
     /// An allocation failed.
     #[error("memory")]
     Memory,
+}
+
+/// Why a command line is no request. `Plan`'s text is that of its fault.
+#[derive(Debug, Drop, Error)]
+pub enum RequestFault {
+    #[error(transparent)]
+    Plan(PlanFault),
+    /// The text of `--hints` is another.
+    #[error("hints is none of auto, always and never")]
+    Hints,
+    /// The text of `--format` is another.
+    #[error("format is none of text and json")]
+    Format,
+    /// The rows are a collection, and are to be counted or passed over as lines are.
+    #[error("count and skip-faulty are for lines, not for a collection")]
+    Collection,
 }

@@ -1,8 +1,11 @@
 //! Laws of command lines, stated on functions that do nothing.
-ghost use Rattle.std.specs.Prelude.{◌≡◌, ◌∷◌, [], false, true, Some, codes};
-ghost use Rattle.clap.specs.Words.{fault_of, first_of};
+ghost use Rattle.std.specs.Prelude.{◌≡◌, ◌∷◌, [], None, false, true, Some, codes};
+ghost use Rattle.clap.specs.Words.{all_of, fault_of, first_of};
 ghost use Rattle.clap.specs.declared.error.kind.ErrorKind.TheVariants as kind;
 ghost use Rattle.command_plan.specs.CommandLine.{Enters, GivesNotOne, IsTaken, is_flag_set, verb_matches, odfilter_app};
+ghost use Rattle.command_plan.specs.Requests.{format_asked, hints_asked};
+ghost use Rattle.command_plan.specs.declared.command_line.Format.{Format};
+ghost use Rattle.command_plan.specs.declared.command_line.Hints.{Hints};
 ghost use Rattle.command_plan.specs.declared.command_line.Verb.{Verb};
 ghost use Rattle.command_plan.specs.WorkedLines as worked;
 
@@ -41,4 +44,21 @@ pub fn lines_by_example()
     ensures explain_query { first_of (codes "query") (verb_matches worked.whole_explain) ≡ Some (codes "x") }
     ensures explain_has_no_now { fault_of odfilter_app worked.explain_with_now ≡ kind.UnknownArgument ∷ [] }
     ensures help { fault_of odfilter_app worked.help_of_filter ≡ kind.DisplayHelp ∷ [] }
+{}
+
+/// Worked command lines with options of reports and of rows. A line with `--hints` and `--format` is taken with their
+/// values, one with a second `--rows` with both files and the first as the plan's, and with `--count` and
+/// `--skip-faulty` with these. `check` takes any word after `--hints`, of which no hints are asked.
+pub fn reports_by_example()
+    ensures taken { IsTaken worked.with_reports }
+    ensures hints { hints_asked (first_of (codes "hints") (verb_matches worked.with_reports)) ≡ Some Hints.Never }
+    ensures format { format_asked (first_of (codes "format") (verb_matches worked.with_reports)) ≡ Some Format.Json }
+    ensures rows { all_of (codes "rows") (verb_matches worked.with_reports) ≡ Some (codes "r" ∷ []) }
+    ensures more_taken { IsTaken worked.with_more_rows }
+    ensures more_rows { all_of (codes "rows") (verb_matches worked.with_more_rows) ≡ Some (codes "r" ∷ codes "q" ∷ []) }
+    ensures first_rows { first_of (codes "rows") (verb_matches worked.with_more_rows) ≡ Some (codes "r") }
+    ensures count { is_flag_set Verb.Filter (codes "count") (verb_matches worked.with_more_rows) ≡ true }
+    ensures skip { is_flag_set Verb.Filter (codes "skip-faulty") (verb_matches worked.with_more_rows) ≡ true }
+    ensures check_taken { IsTaken worked.check_with_hints }
+    ensures no_hints { hints_asked (first_of (codes "hints") (verb_matches worked.check_with_hints)) ≡ None }
 {}

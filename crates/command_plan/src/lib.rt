@@ -12,6 +12,8 @@
 pub mod command_line;
 mod laws;
 mod planner;
+mod requests;
 
-pub use laws::lines_by_example;
+pub use laws::{lines_by_example, reports_by_example};
 pub use planner::plan;
+pub use requests::request;

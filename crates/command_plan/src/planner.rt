@@ -1,9 +1,10 @@
-ghost use Rattle.std.specs.Prelude.{◌≡◌, IfOk, MatchResult, codes, false, map, option_map};
-ghost use Rattle.clap.specs.Words.{found_of, rows_of, rule_of};
+ghost use Rattle.std.specs.Prelude.{◌≡◌, IfOk, MatchResult, [], codes, false, map, option_map, unwrap_or};
+ghost use Rattle.clap.specs.Words.{App, found_of, rows_of, rule_of};
 ghost use Rattle.command_plan.specs.CommandLine.{HasValues, IsPlanOf, IsRefusedBy};
-ghost use Rattle.command_plan.specs.CommandLine.{check_app, explain_app, filter_app, flag_rule, is_flag_set};
-ghost use Rattle.command_plan.specs.CommandLine.{odfilter_app, option_value, rowless_app, text_rule, verb_app};
-ghost use Rattle.command_plan.specs.private.Planner.{IsApp, IsClapFault, IsNotOneFault};
+ghost use Rattle.command_plan.specs.CommandLine.{check_app, explain_app, filter_app, flag_rule, formed_app, is_flag_set};
+ghost use Rattle.command_plan.specs.CommandLine.{counting_app, odfilter_app, option_value, option_values, repeated_rule};
+ghost use Rattle.command_plan.specs.CommandLine.{rowless_app, text_rule, verb_app};
+ghost use Rattle.command_plan.specs.private.Planner.{HasTexts, IsApp, IsClapFault, IsLineOf, IsNoLineFault, IsNotOneFault};
 
 use super::command_line::{Plan, PlanFault, Verb};
 use clap::error::ErrorKind;
@@ -43,6 +44,18 @@ fn text_option<'a>(alloc: Global, name: &'a str, value: &'a str, help: &'a str) 
         .action(ArgAction::Set)
 }
 
+/// An option that takes a text each time that it is given.
+fn repeated_option<'a>(alloc: Global, name: &'a str, value: &'a str, help: &'a str) -> Arg<'a>
+    ensures rule { rule_of result ≡ repeated_rule name.entry.now }
+    ensures local { result.global ≡ false }
+{
+    Arg::new(alloc, name)
+        .long(name)
+        .value_name(value)
+        .help(help)
+        .action(ArgAction::Append)
+}
+
 /// An option that takes no text.
 fn flag<'a>(alloc: Global, name: &'a str, help: &'a str) -> Arg<'a>
     ensures rule { rule_of result ≡ flag_rule name.entry.now }
@@ -52,6 +65,25 @@ fn flag<'a>(alloc: Global, name: &'a str, help: &'a str) -> Arg<'a>
         .long(name)
         .help(help)
         .action(ArgAction::SetTrue)
+}
+
+/// The command with the options that say how a run reports.
+fn with_form<'a>(alloc: Global, command: Command<'a>) -> Result<Command<'a>, AllocError>
+    ensures { (app : App) → IsApp app command.entry → IfOk result (IsApp (formed_app app)) }
+{
+    let hints = text_option(
+        alloc,
+        "hints",
+        "WHEN",
+        "Sentences for people after the lines of faults: auto (at a terminal), always or never",
+    );
+    let format = text_option(
+        alloc,
+        "format",
+        "FORM",
+        "How faults and what check and explain find are written: text or json",
+    );
+    command.arg(hints)?.arg(format)
 }
 
 /// The subcommand of a verb, with the options that every verb has.
@@ -80,13 +112,14 @@ fn verb_command<'a>(alloc: Global, word: &'a str, about: &'a str) -> Result<Comm
         "TEXT",
         "A query string as it stands in a URL, with the filter and no other option of OData",
     );
-    Command::new(alloc, word)
+    let command = Command::new(alloc, word)
         .about(about)
         .after_help(AFTER_HELP)
         .arg(schema)?
         .arg(named)?
         .arg(filter)?
-        .arg(query)
+        .arg(query)?;
+    with_form(alloc, command)
 }
 
 /// The subcommand `check`.
@@ -115,11 +148,11 @@ fn explain_command<'a>(alloc: Global) -> Result<Command<'a>, AllocError>
 fn filter_command<'a>(alloc: Global) -> Result<Command<'a>, AllocError>
     ensures { IfOk result (IsApp filter_app) }
 {
-    let rows = text_option(
+    let rows = repeated_option(
         alloc,
         "rows",
         "FILE",
-        "Rows, one JSON object a line; else standard input",
+        "Rows, one JSON object a line, of one file or several; - and none are standard input",
     );
     let now = text_option(
         alloc,
@@ -134,7 +167,24 @@ fn filter_command<'a>(alloc: Global) -> Result<Command<'a>, AllocError>
     );
     let about = "Writes the rows whose outcome is true, as they come";
     let command = verb_command(alloc, "filter", about)?;
-    command.arg(rows)?.arg(now)?.arg(collection)
+    with_counts(alloc, command.arg(rows)?.arg(now)?.arg(collection)?)
+}
+
+/// The command with the flags of runs over rows that may be at fault.
+fn with_counts<'a>(alloc: Global, command: Command<'a>) -> Result<Command<'a>, AllocError>
+    ensures { (app : App) → IsApp app command.entry → IfOk result (IsApp (counting_app app)) }
+{
+    let count = flag(
+        alloc,
+        "count",
+        "At the end, says how many rows there were, how many were kept, and how many were at fault",
+    );
+    let skip = flag(
+        alloc,
+        "skip-faulty",
+        "Reports each row at fault and goes on; the status is 4 at the end",
+    );
+    command.arg(count)?.arg(skip)
 }
 
 /// The command with the subcommands that read no rows.
@@ -198,6 +248,54 @@ fn is_collection(verb: Verb, matches: &ArgMatches<'_>) -> bool
     }
 }
 
+/// Whether the rows are counted, which `filter` alone may say.
+fn is_counted(verb: Verb, matches: &ArgMatches<'_>) -> bool
+    ensures { result ≡ is_flag_set verb (codes "count") (rows_of (found_of matches.now)) }
+{
+    match verb {
+        Verb::Filter => matches.get_one::<bool>("count").unwrap_or(false),
+        Verb::Check | Verb::Explain => false,
+    }
+}
+
+/// Whether rows at fault are passed over, which `filter` alone may say.
+fn skips_faulty(verb: Verb, matches: &ArgMatches<'_>) -> bool
+    ensures { result ≡ is_flag_set verb (codes "skip-faulty") (rows_of (found_of matches.now)) }
+{
+    match verb {
+        Verb::Filter => matches.get_one::<bool>("skip-faulty").unwrap_or(false),
+        Verb::Check | Verb::Explain => false,
+    }
+}
+
+/// The files of rows that were given, which `filter` alone may name; `None` without one.
+fn given_files<'m, 'a>(verb: Verb, matches: &'m ArgMatches<'a>) -> Option<&'m [&'a str]>
+    ensures { unwrap_or (option_map (λ names. map (λ s. s.now) names.now) result) []
+        ≡ option_values verb (codes "rows") (rows_of (found_of matches.now)) }
+{
+    match verb {
+        Verb::Filter => matches.get_raw("rows"),
+        Verb::Check | Verb::Explain => None,
+    }
+}
+
+/// The same in a list of its own.
+fn rows_files<'a>(
+    alloc: Global,
+    verb: Verb,
+    matches: &ArgMatches<'a>,
+) -> Result<Vec<&'a str>, AllocError>
+    ensures { IfOk result (λ names. map (λ s. s.now) names.items
+        ≡ option_values verb (codes "rows") (rows_of (found_of matches.now))) }
+{
+    let mut names = Vec::new(alloc);
+    let Some(given) = given_files(verb, matches) else {
+        return Ok(names);
+    };
+    names.extend_from_slice(given)?;
+    Ok(names)
+}
+
 /// The plan of what stands after a verb.
 fn plan_of<'a>(verb: Verb, matches: &ArgMatches<'a>) -> Result<Plan<'a>, PlanFault>
     ensures verb { IfOk result (λ plan. plan.verb ≡ verb) }
@@ -221,13 +319,45 @@ fn plan_of<'a>(verb: Verb, matches: &ArgMatches<'a>) -> Result<Plan<'a>, PlanFau
     })
 }
 
-/// Reads a command line, the program's name first.
-///
-/// `OneOf` is returned where not exactly one of filter and query is given, `Clap` where `clap` refuses the words or is
-/// asked for help or the version.
-#[inline(never)]
-pub fn plan<'a>(alloc: Global, words: &'a [&'a str]) -> Result<Plan<'a>, PlanFault>
-    ensures { MatchResult result (IsPlanOf (map (λ s. s.now) words.entry.now))
+/// A command line that was read: its plan, and the texts that say how a run of it reports.
+#[derive(Drop)]
+pub(crate) struct Line<'a> {
+    pub(crate) plan: Plan<'a>,
+    pub(crate) hints: Option<&'a str>,
+    pub(crate) format: Option<&'a str>,
+    pub(crate) rows: Vec<&'a str>,
+    pub(crate) count: bool,
+    pub(crate) skip_faulty: bool,
+}
+
+/// The line of what stands after a verb.
+fn line_of<'a>(alloc: Global, verb: Verb, matches: &ArgMatches<'a>) -> Result<Line<'a>, PlanFault>
+    ensures verb { IfOk result (λ line. line.plan.verb ≡ verb) }
+    ensures values { MatchResult result (HasTexts (rows_of (found_of matches.now)))
+        (IsNoLineFault (rows_of (found_of matches.now))) }
+{
+    let plan = match plan_of(verb, matches) {
+        Ok(plan) => plan,
+        Err(fault) => return Err(fault),
+    };
+    let hints = matches.get_str("hints");
+    let format = matches.get_str("format");
+    match rows_files(alloc, verb, matches) {
+        Ok(rows) => Ok(Line {
+            plan,
+            hints,
+            format,
+            rows,
+            count: is_counted(verb, matches),
+            skip_faulty: skips_faulty(verb, matches),
+        }),
+        Err(_) => Err(PlanFault::Memory),
+    }
+}
+
+/// Reads a command line.
+pub(crate) fn read_line<'a>(alloc: Global, words: &'a [&'a str]) -> Result<Line<'a>, PlanFault>
+    ensures { MatchResult result (IsLineOf (map (λ s. s.now) words.entry.now))
         (IsRefusedBy (map (λ s. s.now) words.entry.now)) }
 {
     let command = match command(alloc) {
@@ -239,13 +369,28 @@ pub fn plan<'a>(alloc: Global, words: &'a [&'a str]) -> Result<Plan<'a>, PlanFau
         Err(error) => return Err(fault_of(error)),
     };
     match matches.subcommand_matches("filter") {
-        Some(inner) => plan_of(Verb::Filter, inner),
+        Some(inner) => line_of(alloc, Verb::Filter, inner),
         None => match matches.subcommand_matches("check") {
-            Some(inner) => plan_of(Verb::Check, inner),
+            Some(inner) => line_of(alloc, Verb::Check, inner),
             None => match matches.subcommand_matches("explain") {
-                Some(inner) => plan_of(Verb::Explain, inner),
+                Some(inner) => line_of(alloc, Verb::Explain, inner),
                 None => Err(PlanFault::OneOf),
             },
         },
+    }
+}
+
+/// Reads a command line, the program's name first, for its plan alone.
+///
+/// `OneOf` is returned where not exactly one of filter and query is given, `Clap` where `clap` refuses the words or is
+/// asked for help or the version.
+#[inline(never)]
+pub fn plan<'a>(alloc: Global, words: &'a [&'a str]) -> Result<Plan<'a>, PlanFault>
+    ensures { MatchResult result (IsPlanOf (map (λ s. s.now) words.entry.now))
+        (IsRefusedBy (map (λ s. s.now) words.entry.now)) }
+{
+    match read_line(alloc, words) {
+        Ok(line) => Ok(line.plan),
+        Err(fault) => Err(fault),
     }
 }

@@ -2,7 +2,7 @@
 use Rattle.std.specs.Prelude.{ℕ, ◌==◌, Bool, List, [], ◌∷◌}
 use Rattle.std.specs.List.{list_any}
 use Rattle.fault_sentences.specs.declared.fault_class.FaultClass.{FaultClass}
-use Rattle.fault_sentences.specs.declared.fault_class.FaultClass.TheVariants.{Schema, Query, Text, Syntax, Typing, Row, Evaluation, Json, Line, UnknownType, NoFilter, MomentNeeded, NotAMoment}
+use Rattle.fault_sentences.specs.declared.fault_class.FaultClass.TheVariants.{Schema, Query, Text, Syntax, Typing, Row, Evaluation, Json, Line, Collection, UnknownType, NoFilter, MomentNeeded, NotAMoment}
 
 abbrev pub numbers_of : FaultClass → List ℕ
 numbers_of Schema = 1 ∷ 2 ∷ 3 ∷ 4 ∷ 5 ∷ 6 ∷ 7 ∷ 8 ∷ 9 ∷ 10 ∷ []
@@ -14,6 +14,7 @@ numbers_of Row = 1 ∷ 2 ∷ 3 ∷ 4 ∷ 5 ∷ 6 ∷ 8 ∷ []
 numbers_of Evaluation = 1 ∷ 2 ∷ []
 numbers_of Json = 0 ∷ []
 numbers_of Line = 0 ∷ []
+numbers_of Collection = 0 ∷ []
 numbers_of UnknownType = 0 ∷ []
 numbers_of NoFilter = 0 ∷ []
 numbers_of MomentNeeded = 0 ∷ []

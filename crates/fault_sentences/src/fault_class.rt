@@ -14,6 +14,8 @@ pub enum FaultClass {
     Json,
     /// A line that is too long.
     Line,
+    /// A document that is not a collection.
+    Collection,
     /// A name that is not an entity type's.
     UnknownType,
     /// A query without a filter.

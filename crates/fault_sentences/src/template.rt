@@ -139,6 +139,11 @@ fn evaluation_template(number: u8) -> Option<Template>
 fn lone_template(class: FaultClass) -> Template {
     match class {
         FaultClass::Json => ("The row is not JSON in UTF-8.", "", ""),
+        FaultClass::Collection => (
+            "The rows are not one JSON object with an array 'value'.",
+            "",
+            "",
+        ),
         FaultClass::UnknownType => ("", "The schema has no entity type '", "'."),
         FaultClass::NoFilter => ("The query has no $filter.", "", ""),
         FaultClass::MomentNeeded => (

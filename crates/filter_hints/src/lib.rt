@@ -18,6 +18,7 @@ mod advised_sentence;
 mod called_function;
 mod edit;
 mod filter_of;
+mod hint;
 mod name_distance;
 mod near_names;
 mod operand_type;
@@ -33,5 +34,7 @@ mod unknown_enumeration;
 mod unknown_property;
 mod words_around;
 
-pub use advised_sentence::advise;
+pub use advised_sentence::{advise, advise_with_edits};
+pub use edit::Edit;
 pub use filter_of::FilterOf;
+pub use hint::Hint;

@@ -1,6 +1,7 @@
 //! What to write where an operator does not take its operands.
 use crate::edit::{Edit, part};
 use crate::filter_of::FilterOf;
+use crate::hint::Hint;
 use crate::operand_type::{OperandType, operand_type};
 use crate::quoted_value::{SPELLINGS, respelling};
 use crate::syntax_tree::{first_of_two, last_child, next_around};
@@ -53,13 +54,16 @@ fn types_in_words(
     alloc: Global,
     left: &Option<OperandType>,
     right: &Option<OperandType>,
-) -> Result<Option<String>, AllocError> {
+) -> Result<Option<Hint>, AllocError> {
     match (left, right) {
-        (Some(left), Some(right)) => Ok(Some(format!(in alloc;
-            "They are of types {} and {}.",
-            left.name.as_str(),
-            right.name.as_str()
-        )?)),
+        (Some(left), Some(right)) => {
+            let text = format!(in alloc;
+                "They are of types {} and {}.",
+                left.name.as_str(),
+                right.name.as_str()
+            )?;
+            Ok(Some(Hint::plain(alloc, text)))
+        }
         _ => Ok(None),
     }
 }
@@ -70,26 +74,28 @@ fn literal_in_words(
     filter: &FilterOf<'_>,
     whole: Span,
     operand: &SyntaxNode,
-) -> Result<Option<String>, AllocError> {
+) -> Result<Option<Hint>, AllocError> {
     match mending_literal(alloc, filter, operand)? {
         Some(edit) => {
-            let mended = part_edited(alloc, filter.report.text, whole, &edit)?;
-            Ok(Some(format!(in alloc; "Write {}.", mended.as_str())?))
+            let text = part_edited(alloc, filter.report.text, whole, &edit)?;
+            let words = format!(in alloc; "Write {}.", text.as_str())?;
+            Ok(Some(Hint::with_edit(alloc, words, Edit { span: whole, text })?))
         }
         None => Ok(None),
     }
 }
 
-/// Both sentences, or the one there is.
+/// Both sentences with the edits of the second one, or the one there is.
 fn joined(
     alloc: Global,
-    first: Option<String>,
-    second: Option<String>,
-) -> Result<Option<String>, AllocError> {
+    first: Option<Hint>,
+    second: Option<Hint>,
+) -> Result<Option<Hint>, AllocError> {
     match (first, second) {
-        (Some(first), Some(second)) => {
-            Ok(Some(format!(in alloc; "{} {}", first.as_str(), second.as_str())?))
-        }
+        (Some(first), Some(second)) => Ok(Some(Hint {
+            text: format!(in alloc; "{} {}", first.text.as_str(), second.text.as_str())?,
+            edits: second.edits,
+        })),
         (Some(only), None) | (None, Some(only)) => Ok(Some(only)),
         (None, None) => Ok(None),
     }
@@ -101,7 +107,7 @@ fn two_operands(
     filter: &FilterOf<'_>,
     nodes: &[SyntaxNode],
     index: usize,
-) -> Result<Option<String>, AllocError> {
+) -> Result<Option<Hint>, AllocError> {
     let (Some(left), Some(right)) = (first_of_two(nodes, index), last_child(index)) else {
         return Ok(None);
     };
@@ -124,7 +130,7 @@ fn negated(
     filter: &FilterOf<'_>,
     nodes: &[SyntaxNode],
     index: usize,
-) -> Result<Option<String>, AllocError> {
+) -> Result<Option<Hint>, AllocError> {
     let (Some(operand), Some(after)) = (last_child(index), index.checked_add(1)) else {
         return Ok(None);
     };
@@ -146,7 +152,8 @@ fn negated(
         text: format!(in alloc; "({})", part(filter.report.text, meant))?,
     };
     if mends(alloc, filter, &edit)? {
-        Ok(Some(format!(in alloc; "Write not {}.", edit.text.as_str())?))
+        let words = format!(in alloc; "Write not {}.", edit.text.as_str())?;
+        Ok(Some(Hint::with_edit(alloc, words, edit)?))
     } else {
         Ok(None)
     }
@@ -158,7 +165,7 @@ pub fn operand_advice(
     filter: &FilterOf<'_>,
     nodes: &[SyntaxNode],
     index: usize,
-) -> Result<Option<String>, AllocError> {
+) -> Result<Option<Hint>, AllocError> {
     let Some(node) = nodes.get(index) else {
         return Ok(None);
     };

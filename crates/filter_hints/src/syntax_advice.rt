@@ -2,6 +2,7 @@
 use crate::advised_sentence::Advice;
 use crate::edit::{Edit, part};
 use crate::filter_of::FilterOf;
+use crate::hint::Hint;
 use crate::standard_names::{is_function, is_infix_operator};
 use crate::trial::mends;
 use crate::words_around::{first_operand_end, last_word, open_parenthesis};
@@ -57,7 +58,7 @@ fn infix_function(
     alloc: Global,
     filter: &FilterOf<'_>,
     around: &Around<'_>,
-) -> Result<Option<String>, AllocError> {
+) -> Result<Option<Hint>, AllocError> {
     let left = last_word(around.before);
     let end = first_operand_end(around.after);
     let right = around.after.get(..end).unwrap_or("").trim_start();
@@ -68,7 +69,8 @@ fn infix_function(
     };
     let edit = Edit { span, text: call };
     if mends(alloc, filter, &edit)? {
-        Ok(Some(format!(in alloc; "Write {}.", edit.text.as_str())?))
+        let words = format!(in alloc; "Write {}.", edit.text.as_str())?;
+        Ok(Some(Hint::with_edit(alloc, words, edit)?))
     } else {
         Ok(None)
     }
@@ -79,7 +81,7 @@ fn without_variable(
     alloc: Global,
     filter: &FilterOf<'_>,
     around: &Around<'_>,
-) -> Result<Option<String>, AllocError> {
+) -> Result<Option<Hint>, AllocError> {
     let first = last_word(around.before);
     let word = part(around.before, first);
     let variable = match word.split_once('/') {
@@ -94,10 +96,11 @@ fn without_variable(
         text: format!(in alloc; "{variable}:")?,
     };
     if mends(alloc, filter, &edit)? {
-        Ok(Some(format!(in alloc;
+        let words = format!(in alloc;
             "any and all name a variable first, before a colon: put {} before {word}.",
             edit.text.as_str()
-        )?))
+        )?;
+        Ok(Some(Hint::with_edit(alloc, words, edit)?))
     } else {
         Ok(None)
     }
@@ -112,19 +115,9 @@ fn opens_lambda(before: &str) -> bool {
     lead.ends_with("/any(") || lead.ends_with("/all(")
 }
 
-/// A word where an operator is wanted.
-fn word_advice(
-    alloc: Global,
-    filter: &FilterOf<'_>,
-    around: &Around<'_>,
-) -> Result<Option<String>, AllocError> {
+/// A word where an operator is wanted: another operator, or none before it.
+fn operator_advice(alloc: Global, around: &Around<'_>) -> Result<Option<String>, AllocError> {
     let word = around.token;
-    if opens_lambda(around.before) {
-        return without_variable(alloc, filter, around);
-    }
-    if is_function(word) {
-        return infix_function(alloc, filter, around);
-    }
     if word.eq_ignore_ascii_case("like") {
         let text = "Use contains, startswith or endswith, as in contains(Name,'a').";
         return Ok(Some(String::from_str(alloc, text)?));
@@ -136,18 +129,37 @@ fn word_advice(
     without_left_operand(alloc, around)
 }
 
-/// Of a token that cannot stand there.
-fn unexpected(
-    alloc: Global,
-    filter: &FilterOf<'_>,
-    around: &Around<'_>,
-) -> Result<Option<String>, AllocError> {
+/// Words without an edit about a token that cannot stand there.
+fn plain_advice(alloc: Global, around: &Around<'_>) -> Result<Option<String>, AllocError> {
     if around.token.is_empty() {
         at_end(alloc, around)
     } else if around.token == ")" && open_parenthesis(around.before).is_none() {
         Ok(Some(String::from_str(alloc, "No parenthesis is open there.")?))
     } else {
-        word_advice(alloc, filter, around)
+        operator_advice(alloc, around)
+    }
+}
+
+/// The words as a hint that suggests no edit.
+fn plain_hint(alloc: Global, words: Option<String>) -> Option<Hint> {
+    match words {
+        Some(words) => Some(Hint::plain(alloc, words)),
+        None => None,
+    }
+}
+
+/// Of a token that cannot stand there.
+fn unexpected(
+    alloc: Global,
+    filter: &FilterOf<'_>,
+    around: &Around<'_>,
+) -> Result<Option<Hint>, AllocError> {
+    if !around.token.is_empty() && opens_lambda(around.before) {
+        without_variable(alloc, filter, around)
+    } else if is_function(around.token) {
+        infix_function(alloc, filter, around)
+    } else {
+        Ok(plain_hint(alloc, plain_advice(alloc, around)?))
     }
 }
 
@@ -176,7 +188,7 @@ pub fn syntax_advice(alloc: Global, filter: &FilterOf<'_>) -> Result<Advice, All
     let around = text_around(filter.report.text, filter.report.span);
     let more = match (filter.report.class, filter.report.number) {
         (FaultClass::Syntax, 1) => unexpected(alloc, filter, &around)?,
-        (FaultClass::Text, 3) => beside_unread(alloc, filter, &around)?,
+        (FaultClass::Text, 3) => plain_hint(alloc, beside_unread(alloc, filter, &around)?),
         _ => None,
     };
     Ok(match more {

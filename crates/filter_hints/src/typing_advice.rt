@@ -2,6 +2,7 @@
 use crate::advised_sentence::Advice;
 use crate::edit::part;
 use crate::filter_of::FilterOf;
+use crate::hint::Hint;
 use crate::near_names::NearNames;
 use crate::operand_type::operand_type;
 use crate::operand_types::operand_advice;
@@ -13,7 +14,7 @@ use odata_syntax::{SyntaxNode, parse_text};
 use std::alloc::{AllocError, Global};
 
 /// What to say after the sentence, if anything.
-fn after(more: Option<String>) -> Advice {
+fn after(more: Option<Hint>) -> Advice {
     match more {
         Some(more) => Advice::After(more),
         None => Advice::None,
@@ -33,13 +34,13 @@ fn function_advice(
     let name = part(filter.report.text, call.text);
     if is_unsupported_function(name) {
         let sentence = format!(in alloc; "The function '{name}' of OData is not supported here.")?;
-        return Ok(Advice::Instead(sentence));
+        return Ok(Advice::Instead(Hint::plain(alloc, sentence)));
     }
     let mut near = NearNames::new(name);
     for function in FUNCTIONS {
         near.offer(function);
     }
-    Ok(after(near_in_words(alloc, &near)?))
+    Ok(after(near_in_words(alloc, &near, call.text)?))
 }
 
 /// Of a filter that is neither true nor false: its type.
@@ -53,7 +54,8 @@ fn whole_advice(
     };
     match operand_type(alloc, filter, nodes, root)? {
         Some(found) => {
-            Ok(Advice::After(format!(in alloc; "It is of type {}.", found.name.as_str())?))
+            let text = format!(in alloc; "It is of type {}.", found.name.as_str())?;
+            Ok(Advice::After(Hint::plain(alloc, text)))
         }
         None => Ok(Advice::None),
     }
@@ -74,7 +76,7 @@ fn node_advice(
         11 => {
             let more =
                 "Edm.Decimal, Edm.Double, Edm.Duration and others cannot be used in a filter.";
-            Ok(Advice::After(String::from_str(alloc, more)?))
+            Ok(Advice::After(Hint::plain(alloc, String::from_str(alloc, more)?)))
         }
         _ => Ok(Advice::None),
     }

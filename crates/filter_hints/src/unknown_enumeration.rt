@@ -1,13 +1,15 @@
 //! What to write for a literal that names no member of an enumeration.
 use crate::advised_sentence::Advice;
-use crate::edit::part;
+use crate::edit::{Edit, part};
 use crate::filter_of::FilterOf;
+use crate::hint::Hint;
 use crate::near_names::NearNames;
 use crate::operand_type::{OperandType, operand_type};
 use crate::syntax_tree::{first_of_two, last_child};
 use crate::unknown_property::near_in_words;
 use csdl_schema::{EnumId, PropertyKind};
 use odata_syntax::{LiteralKind, SyntaxKind, SyntaxNode};
+use odata_text::Span;
 use std::alloc::{AllocError, Global};
 
 /// At most so many members are listed.
@@ -37,14 +39,22 @@ fn members_in_words(
     Ok(names)
 }
 
-/// The member that is nearest to a text, and all members.
+/// What stands between the quotes of a literal, and the literal in the filter.
+#[derive(Clone, Copy)]
+struct Quoted<'t> {
+    before: &'t str,
+    value: &'t str,
+    span: Span,
+}
+
+/// The member that is nearest to what a literal has, and all members.
 fn member_advice(
     alloc: Global,
     filter: &FilterOf<'_>,
     id: EnumId,
-    literal: &str,
-) -> Result<String, AllocError> {
-    let mut near = NearNames::new(literal);
+    literal: &Quoted<'_>,
+) -> Result<Hint, AllocError> {
+    let mut near = NearNames::new(literal.value);
     for index in 0..filter.schema.enum_members(id).min(COMPARED) {
         if let Some((name, _)) = filter.schema.enum_member(id, index) {
             near.offer(name);
@@ -52,13 +62,17 @@ fn member_advice(
     }
     let members = members_in_words(alloc, filter, id)?;
     let name = filter.schema.enum_name(id).unwrap_or("the enumeration");
-    match near.first() {
-        Some(member) => Ok(format!(in alloc;
-            "Did you mean '{member}'? The members of {name} are {}.",
-            members.as_str()
-        )?),
-        None => Ok(format!(in alloc; "The members of {name} are {}.", members.as_str())?),
-    }
+    let Some(member) = near.first() else {
+        let words = format!(in alloc; "The members of {name} are {}.", members.as_str())?;
+        return Ok(Hint::plain(alloc, words));
+    };
+    let words = format!(in alloc;
+        "Did you mean '{member}'? The members of {name} are {}.",
+        members.as_str()
+    )?;
+    let text = format!(in alloc; "{}'{member}'", literal.before)?;
+    let span = literal.span;
+    Hint::with_edit(alloc, words, Edit { span, text })
 }
 
 /// The enumerations of the filtered type whose names are near.
@@ -74,30 +88,41 @@ fn near_enumerations<'n>(filter: &FilterOf<'n>, name: &'n str) -> NearNames<'n> 
 }
 
 /// Of a literal with the name of its enumeration before the quotes.
-fn named_literal(
-    alloc: Global,
-    filter: &FilterOf<'_>,
-    literal: &str,
-) -> Result<Advice, AllocError> {
-    let Some((name, rest)) = literal.split_once('\'') else {
+fn named_literal(alloc: Global, filter: &FilterOf<'_>, span: Span) -> Result<Advice, AllocError> {
+    let Some((name, rest)) = part(filter.report.text, span).split_once('\'') else {
         return Ok(Advice::None);
     };
     match filter.schema.enum_named(name) {
         Some(id) => {
-            let value = rest.strip_suffix('\'').unwrap_or(rest);
-            Ok(Advice::After(member_advice(alloc, filter, id, value)?))
+            let literal = Quoted {
+                before: name,
+                value: rest.strip_suffix('\'').unwrap_or(rest),
+                span,
+            };
+            Ok(Advice::After(member_advice(alloc, filter, id, &literal)?))
         }
-        None => {
-            let sentence = format!(in alloc; "The schema has no enumeration '{name}'.")?;
-            match near_in_words(alloc, &near_enumerations(filter, name))? {
-                Some(question) => Ok(Advice::Instead(format!(in alloc;
-                    "{} {}",
-                    sentence.as_str(),
-                    question.as_str()
-                )?)),
-                None => Ok(Advice::Instead(sentence)),
-            }
-        }
+        None => unknown_name(alloc, filter, name, span.start),
+    }
+}
+
+/// Of a name of no enumeration, which begins at that offset.
+fn unknown_name(
+    alloc: Global,
+    filter: &FilterOf<'_>,
+    name: &str,
+    start: usize,
+) -> Result<Advice, AllocError> {
+    let sentence = format!(in alloc; "The schema has no enumeration '{name}'.")?;
+    let span = Span {
+        start,
+        stop: start.saturating_add(name.len()),
+    };
+    match near_in_words(alloc, &near_enumerations(filter, name), span)? {
+        Some(question) => Ok(Advice::Instead(Hint {
+            text: format!(in alloc; "{} {}", sentence.as_str(), question.text.as_str())?,
+            edits: question.edits,
+        })),
+        None => Ok(Advice::Instead(Hint::plain(alloc, sentence))),
     }
 }
 
@@ -107,11 +132,15 @@ fn literal_beside(
     filter: &FilterOf<'_>,
     literal: &SyntaxNode,
     other: &OperandType,
-) -> Result<Option<String>, AllocError> {
+) -> Result<Option<Hint>, AllocError> {
     match filter.schema.enum_named(&other.name) {
         Some(id) => {
-            let value = part(filter.report.text, literal.span).trim_matches('\'');
-            Ok(Some(member_advice(alloc, filter, id, value)?))
+            let literal = Quoted {
+                before: "",
+                value: part(filter.report.text, literal.span).trim_matches('\''),
+                span: literal.span,
+            };
+            Ok(Some(member_advice(alloc, filter, id, &literal)?))
         }
         None => Ok(None),
     }
@@ -123,7 +152,7 @@ fn text_beside(
     filter: &FilterOf<'_>,
     nodes: &[SyntaxNode],
     pair: (usize, usize),
-) -> Result<Option<String>, AllocError> {
+) -> Result<Option<Hint>, AllocError> {
     let (own, other) = pair;
     let Some(literal) = nodes.get(own) else {
         return Ok(None);
@@ -163,7 +192,7 @@ pub fn enumeration_advice(
 ) -> Result<Advice, AllocError> {
     match nodes.get(index).map(|node| node.kind) {
         Some(SyntaxKind::Lit(LiteralKind::EnumLit)) => {
-            named_literal(alloc, filter, part(filter.report.text, filter.report.span))
+            named_literal(alloc, filter, filter.report.span)
         }
         Some(SyntaxKind::Binary(_) | SyntaxKind::Has) => compared(alloc, filter, nodes, index),
         _ => Ok(Advice::None),

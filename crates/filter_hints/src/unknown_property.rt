@@ -3,6 +3,7 @@ use crate::advised_sentence::Advice;
 use crate::called_function::called_function;
 use crate::edit::{Edit, part};
 use crate::filter_of::FilterOf;
+use crate::hint::Hint;
 use crate::near_names::NearNames;
 use crate::operand_type::{OperandType, operand_type};
 use crate::standard_names::is_unsupported_function;
@@ -22,24 +23,34 @@ fn near_properties<'n>(schema: &'n Schema, id: TypeId, name: &'n str) -> NearNam
     near
 }
 
-/// A question whether one of the names was meant.
-pub fn near_in_words(alloc: Global, near: &NearNames<'_>) -> Result<Option<String>, AllocError> {
-    match (near.at(0), near.at(1), near.at(2)) {
+/// A question whether one of the names was meant where the mistyped one stands.
+pub fn near_in_words(
+    alloc: Global,
+    near: &NearNames<'_>,
+    span: Span,
+) -> Result<Option<Hint>, AllocError> {
+    let text = match (near.at(0), near.at(1), near.at(2)) {
         (Some(one), Some(two), Some(three)) => {
-            Ok(Some(format!(in alloc; "Did you mean '{one}', '{two}' or '{three}'?")?))
+            format!(in alloc; "Did you mean '{one}', '{two}' or '{three}'?")?
         }
-        (Some(one), Some(two), None) => Ok(Some(format!(in alloc;
-            "Did you mean '{one}' or '{two}'?"
-        )?)),
-        (Some(one), None, _) => Ok(Some(format!(in alloc; "Did you mean '{one}'?")?)),
-        (None, _, _) => Ok(None),
+        (Some(one), Some(two), None) => format!(in alloc; "Did you mean '{one}' or '{two}'?")?,
+        (Some(one), None, _) => format!(in alloc; "Did you mean '{one}'?")?,
+        (None, _, _) => return Ok(None),
+    };
+    let mut hint = Hint::plain(alloc, text);
+    for index in 0..3 {
+        if let Some(name) = near.at(index) {
+            let text = String::from_str(alloc, name)?;
+            hint.edits.push(Edit { span, text })?;
+        }
     }
+    Ok(Some(hint))
 }
 
-/// The edit's text, if it mends the filter.
-fn mended(alloc: Global, filter: &FilterOf<'_>, edit: Edit) -> Result<Option<String>, AllocError> {
+/// The edit, if it mends the filter.
+fn mended(alloc: Global, filter: &FilterOf<'_>, edit: Edit) -> Result<Option<Edit>, AllocError> {
     if mends(alloc, filter, &edit)? {
-        Ok(Some(edit.text))
+        Ok(Some(edit))
     } else {
         Ok(None)
     }
@@ -51,7 +62,7 @@ fn after_a_variable(
     filter: &FilterOf<'_>,
     nodes: &[SyntaxNode],
     span: Span,
-) -> Result<Option<String>, AllocError> {
+) -> Result<Option<Edit>, AllocError> {
     let text = filter.report.text;
     for index in 0..nodes.len() {
         let (Some((_, body)), Some(lambda)) = (lambda_parts(nodes, index), nodes.get(index)) else {
@@ -69,11 +80,7 @@ fn after_a_variable(
 }
 
 /// The name as a text, if that mends the filter.
-fn as_a_text(
-    alloc: Global,
-    filter: &FilterOf<'_>,
-    span: Span,
-) -> Result<Option<String>, AllocError> {
+fn as_a_text(alloc: Global, filter: &FilterOf<'_>, span: Span) -> Result<Option<Edit>, AllocError> {
     let text = format!(in alloc; "'{}'", part(filter.report.text, span))?;
     mended(alloc, filter, Edit { span, text })
 }
@@ -84,21 +91,23 @@ fn first_name(
     filter: &FilterOf<'_>,
     nodes: &[SyntaxNode],
     span: Span,
-) -> Result<Option<String>, AllocError> {
+) -> Result<Option<Hint>, AllocError> {
     if let Some(path) = after_a_variable(alloc, filter, nodes, span)? {
-        return Ok(Some(format!(in alloc; "Write {}.", path.as_str())?));
+        let words = format!(in alloc; "Write {}.", path.text.as_str())?;
+        return Ok(Some(Hint::with_edit(alloc, words, path)?));
     }
     let near = near_properties(filter.schema, filter.id, part(filter.report.text, span));
-    if let Some(question) = near_in_words(alloc, &near)? {
+    if let Some(question) = near_in_words(alloc, &near, span)? {
         return Ok(Some(question));
     }
-    match as_a_text(alloc, filter, span)? {
-        Some(text) => Ok(Some(format!(in alloc;
-            "Texts stand between apostrophes: write {}.",
-            text.as_str()
-        )?)),
-        None => Ok(None),
-    }
+    let Some(quoted) = as_a_text(alloc, filter, span)? else {
+        return Ok(None);
+    };
+    let words = format!(in alloc;
+        "Texts stand between apostrophes: write {}.",
+        quoted.text.as_str()
+    )?;
+    Ok(Some(Hint::with_edit(alloc, words, quoted)?))
 }
 
 /// A step over a collection: a lambda expression in place of the path, if that mends the filter.
@@ -107,7 +116,7 @@ fn over_members(
     filter: &FilterOf<'_>,
     base: Span,
     whole: Span,
-) -> Result<Option<String>, AllocError> {
+) -> Result<Option<Hint>, AllocError> {
     let text = filter.report.text;
     let rest = Span {
         start: base.stop,
@@ -118,16 +127,21 @@ fn over_members(
         start: base.start,
         stop: whole.stop,
     };
+    let collection = part(text, base);
     match mended(alloc, filter, Edit { span, text: lambda })? {
-        Some(lambda) => Ok(Some(format!(in alloc;
-            "'{}' is a collection: write {}.",
-            part(text, base),
-            lambda.as_str()
-        )?)),
-        None => Ok(Some(format!(in alloc;
-            "'{}' is a collection: any and all look into it.",
-            part(text, base)
-        )?)),
+        Some(lambda) => {
+            let words = format!(in alloc;
+                "'{collection}' is a collection: write {}.",
+                lambda.text.as_str()
+            )?;
+            Ok(Some(Hint::with_edit(alloc, words, lambda)?))
+        }
+        None => {
+            let words = format!(in alloc;
+                "'{collection}' is a collection: any and all look into it."
+            )?;
+            Ok(Some(Hint::plain(alloc, words)))
+        }
     }
 }
 
@@ -137,7 +151,7 @@ fn step_over_members(
     filter: &FilterOf<'_>,
     nodes: &[SyntaxNode],
     steps: (usize, usize),
-) -> Result<Option<String>, AllocError> {
+) -> Result<Option<Hint>, AllocError> {
     let (index, at) = steps;
     let (Some(node), Some(base)) = (nodes.get(index), nodes.get(at)) else {
         return Ok(None);
@@ -156,14 +170,14 @@ fn step_from(
     nodes: &[SyntaxNode],
     steps: (usize, usize),
     base: &OperandType,
-) -> Result<Option<String>, AllocError> {
+) -> Result<Option<Hint>, AllocError> {
     if base.is_collection {
         return step_over_members(alloc, filter, nodes, steps);
     }
     match (filter.schema.type_named(&base.name), nodes.get(steps.0)) {
         (Some(id), Some(node)) => {
             let name = part(filter.report.text, node.text);
-            near_in_words(alloc, &near_properties(filter.schema, id, name))
+            near_in_words(alloc, &near_properties(filter.schema, id, name), node.text)
         }
         _ => Ok(None),
     }
@@ -175,7 +189,7 @@ fn step(
     filter: &FilterOf<'_>,
     nodes: &[SyntaxNode],
     index: usize,
-) -> Result<Option<String>, AllocError> {
+) -> Result<Option<Hint>, AllocError> {
     let Some(at) = last_child(index) else {
         return Ok(None);
     };
@@ -197,7 +211,7 @@ pub fn property_advice(
             let sentence = format!(in alloc;
                 "The function '{function}' of OData is not supported here."
             )?;
-            return Ok(Advice::Instead(sentence));
+            return Ok(Advice::Instead(Hint::plain(alloc, sentence)));
         }
     }
     let more = match nodes.get(index).map(|node| node.kind) {

@@ -1,4 +1,5 @@
 pub mod Found
 pub mod InMemory
+pub mod Passed
 pub mod Split
 pub mod Walked

@@ -8,4 +8,5 @@ pub mod LineStreams
 pub mod Lines
 pub mod Logged
 pub mod Once
+pub mod PastFaults
 pub mod private

@@ -25,12 +25,14 @@ pub trait Judge {
 
     /// Judges the line at the front of the bytes, where it can at once. Otherwise it is `None`, and `judge` judges the
     /// line. `count` is the line's length; the bytes after it decide nothing. A line for which `is_ascii` is set is of
-    /// ASCII, and another may be. A blank line is left to `judge`'s caller. Its clauses say nothing of `None`.
+    /// ASCII, and another may be. A blank line is left to `judge`'s caller. `number` is the line's, from 1. Its clauses
+    /// say nothing of `None`.
     fn judge_at_front(
         &mut self,
         bytes: &[u8],
         count: usize,
         is_ascii: bool,
+        number: u64,
     ) -> Option<Judgment<Self::Fault>>
         requires ascii { IsTrue is_ascii → IsAscii (take count bytes.now) }
         requires within { count ≤ length bytes.now }
@@ -38,8 +40,8 @@ pub trait Judge {
         ensures not_blank { IfSome result (λ _. ¬ IsBlank (take count bytes.now)) }
         ensures same { SaysTheSame (says self.old) (says self.new) };
 
-    /// Judges one line, without its LF. `Err` says that an allocation failed, and ends the run.
-    fn judge(&mut self, line: &[u8]) -> Result<Judgment<Self::Fault>, AllocError>
+    /// Judges the line of that number, without its LF. `Err` says that an allocation failed, and ends the run.
+    fn judge(&mut self, line: &[u8], number: u64) -> Result<Judgment<Self::Fault>, AllocError>
         ensures said { IfOk result (says self.old line.now) }
         ensures same { SaysTheSame (says self.old) (says self.new) };
 }

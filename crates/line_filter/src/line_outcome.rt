@@ -42,7 +42,7 @@ pub(crate) fn line_outcome<J: Judge>(
     if is_blank(line) {
         return Ok(Tally { rows: 0, kept: 0 });
     }
-    match judge.judge(line) {
+    match judge.judge(line, number) {
         Ok(judgment) => outcome_of(judgment, number),
         Err(_) => Err(RunStop::Memory { line: number }),
     }
@@ -62,7 +62,7 @@ pub(crate) fn outcome_at_front<J: Judge>(
     if line.len() > LONGEST_LINE {
         return Err(RunStop::TooLong { line: number });
     }
-    match judge.judge_at_front(bytes, line.len(), false) {
+    match judge.judge_at_front(bytes, line.len(), false, number) {
         Some(judgment) => outcome_of(judgment, number),
         None => line_outcome(judge, line, number),
     }

@@ -105,7 +105,12 @@ fn judge_stream<R: Read, S: Reads<R>, J: Judge, W, T: Writes<W>>(
             Next::Fault(fault) => return Ok(Err(fault_stop(fault, lines + 1))),
         }
         let line = reader.line();
-        match judge.judge_at_front(reader.front(), line.len(), reader.is_line_ascii()) {
+        match judge.judge_at_front(
+            reader.front(),
+            line.len(),
+            reader.is_line_ascii(),
+            lines + 1,
+        ) {
             Some(Judgment::Kept) => {
                 keep::<W, T>(out, held, line)?;
                 lines += 1;

@@ -8,5 +8,6 @@ pub mod LinesOpen
 pub mod RowLineJudges
 pub mod OneCollection
 pub mod OneFault
+pub mod PassedFaults
 pub mod Renamed
 pub mod TrueRows

@@ -1,3 +1,4 @@
 pub mod EntityTypes
 pub mod RunEndings
 pub mod RowEndings
+pub mod PastFaultsEndings

@@ -1,5 +1,6 @@
 pub use Rattle.collection_items.specs.JudgedItems
 pub use Rattle.command_plan.specs.CommandLine
+pub use Rattle.command_plan.specs.Requests
 pub use Rattle.csdl_declarations.specs.Fault
 pub use Rattle.csdl_schema.specs.Document
 pub use Rattle.csdl_schema.specs.JsonText
@@ -22,6 +23,7 @@ pub use Rattle.line_filter.specs.LineSource
 pub use Rattle.line_filter.specs.LineStreams
 pub use Rattle.line_filter.specs.Lines
 pub use Rattle.line_filter.specs.Once
+pub use Rattle.line_filter.specs.PastFaults
 pub use Rattle.line_filter.specs.ItemIndexes
 pub use Rattle.odata_checked_filter.specs.Filter
 pub use Rattle.odata_eval.specs.VerdictView
@@ -57,4 +59,6 @@ pub mod Headline
 pub mod CanonicalRows
 pub mod Planned
 pub mod Run
+pub mod RunsPastFaults
+pub mod FailureStatus
 pub mod private

@@ -1,6 +1,7 @@
 //! The run that a command line asks for, and the lines that are printed.
-mod failure;
+pub(crate) mod failure;
 mod output_line;
 mod rows;
+pub(crate) mod run_past_faults;
 pub(crate) mod runner;
 pub(crate) mod whole_input;

@@ -82,11 +82,12 @@ impl Judge for BoundedLineJudge<'_, '_> {
         _bytes: &[u8],
         _count: usize,
         _is_ascii: bool,
+        _number: u64,
     ) -> Option<Judgment<BoundedFault>> {
         None
     }
 
-    fn judge(&mut self, line: &[u8]) -> Result<Judgment<BoundedFault>, AllocError> {
+    fn judge(&mut self, line: &[u8], _number: u64) -> Result<Judgment<BoundedFault>, AllocError> {
         judgment_within(
             self.rows
                 .judge_within(self.checked, self.moment, self.most, line),

@@ -72,6 +72,7 @@ impl Judge for RowLineJudge<'_, '_> {
         bytes: &[u8],
         count: usize,
         is_ascii: bool,
+        _number: u64,
     ) -> Option<Judgment<BadRow>> {
         let reading = read_at_front(&mut self.type_rows, &mut self.room, bytes, count, is_ascii);
         self.rows
@@ -79,7 +80,7 @@ impl Judge for RowLineJudge<'_, '_> {
     }
 
     #[inline(never)]
-    fn judge(&mut self, line: &[u8]) -> Result<Judgment<BadRow>, AllocError> {
+    fn judge(&mut self, line: &[u8], _number: u64) -> Result<Judgment<BadRow>, AllocError> {
         judgment_of(self.rows.judge_by_tree(line))
     }
 }

@@ -4,17 +4,17 @@ use Rattle.std.specs.Box.{box_value}
 use Rattle.std.specs.Str.{bytes_eq}
 use Rattle.std.proofs.lemmas.Slice.Eq.{bytes_eq-Decides}
 use Rattle.clap.specs.declared.error.Error.{Error}
-use Rattle.clap.specs.Words.{App, HasKind, HasMatchesOf, IsAmong, kind_of, Row, Text, app_of, fault_of, is_simple, is_simple_and_free, subcommand_name_of, subcommand_of, subcommand_rows, subcommand_rows_of}
+use Rattle.clap.specs.Words.{App, HasKind, HasMatchesOf, IsAmong, kind_of, Row, Text, app_of, fault_of, first_of, is_simple, is_simple_and_free, subcommand_name_of, subcommand_of, subcommand_rows, subcommand_rows_of}
 use Rattle.clap.specs.declared.builder.command.Command.{Command}
 use Rattle.clap.specs.declared.parser.matches.ArgMatches.{ArgMatches}
 use Rattle.clap.specs.declared.parser.matches.ArgMatches.TheViews.{out-ArgMatches, out-SubCommand}
 use Rattle.clap.proofs.OnLiterals.{clap_on_literals}
-use Rattle.command_plan.specs.CommandLine.{HasValues, IsPlanOf, IsRefusedBy, IsTaken, LacksOneOf, matches_if_verb, odfilter_app, verb_word}
-use Rattle.command_plan.specs.declared.command_line.Plan.{Plan}
+use Rattle.command_plan.specs.CommandLine.{HasValues, IsRefusedBy, IsTaken, LacksOneOf, is_flag_set, matches_if_verb, odfilter_app, option_values, verb_matches, verb_word}
 use Rattle.command_plan.specs.declared.command_line.PlanFault.{PlanFault}
 use Rattle.command_plan.specs.declared.command_line.PlanFault.TheVariants.{Clap, Memory, OneOf}
 use Rattle.command_plan.specs.declared.command_line.Verb.{Verb}
-use Rattle.command_plan.specs.private.Planner.{IsApp, IsClapFault, IsNotOneFault}
+use Rattle.command_plan.specs.declared.planner.Line.{Line}
+use Rattle.command_plan.specs.private.Planner.{HasTexts, IsApp, IsClapFault, IsLineOf, IsNoLineFault}
 
 -- the program's command is one of those of which `clap` reports its matches and its faults
 pub is_plain : is_simple odfilter_app ≡ true
@@ -71,20 +71,29 @@ refused_by command words error (Clap e) app kinds is =
 refused_by command words error OneOf app kinds is = absurd is
 refused_by command words error Memory app kinds is = tt
 
--- a plan of a verb's matches is one of the words
-pub planned_by : (words : List Text) (verb : Verb) (rows : List Row) (result : Result Plan PlanFault)
+-- a line of a verb's matches is one of the words
+pub planned_by : (words : List Text) (verb : Verb) (rows : List Row) (result : Result Line PlanFault)
     → IsTaken words → subcommand_of odfilter_app words ≡ Some (verb_word verb, rows) → matches_if_verb (Some (verb_word verb, rows)) ≡ rows
-    → IfOk result (λ plan. plan.verb ≡ verb) → MatchResult result (HasValues rows) (IsNotOneFault rows)
-    → MatchResult result (IsPlanOf words) (IsRefusedBy words)
-planned_by words verb rows (Ok plan) taken entered here is_verb values = record {
-  is_taken = taken;
-  enters = ap (option_map (λ e. e.0)) entered ∙ ap (λ v. Some (verb_word v)) (sym is_verb);
-  values = subst (λ r. HasValues r plan) (sym (ap matches_if_verb entered ∙ here)) values;
-}
-planned_by words verb rows (Err OneOf) taken entered here is_verb values =
-    record { is_taken = taken; lacks = subst LacksOneOf (sym (ap matches_if_verb entered ∙ here)) values }
-planned_by words verb rows (Err (Clap e)) taken entered here is_verb values = absurd values
-planned_by words verb rows (Err Memory) taken entered here is_verb values = absurd values
+    → IfOk result (λ line. line.plan.verb ≡ verb) → MatchResult result (HasTexts rows) (IsNoLineFault rows)
+    → MatchResult result (IsLineOf words) (IsRefusedBy words)
+planned_by words verb rows (Ok line) taken entered here is_verb texts =
+    let found : verb_matches words ≡ rows = ap matches_if_verb entered ∙ here in
+    record {
+      plan = record {
+        is_taken = taken;
+        enters = ap (option_map (λ e. e.0)) entered ∙ ap (λ v. Some (verb_word v)) (sym is_verb);
+        values = subst (λ r. HasValues r line.plan) (sym found) texts.plan;
+      };
+      hints = texts.hints ∙ ap (λ r. first_of (codes "hints") r) (sym found);
+      format = texts.format ∙ ap (λ r. first_of (codes "format") r) (sym found);
+      rows = texts.rows ∙ ap (λ r. option_values line.plan.verb (codes "rows") r) (sym found);
+      count = texts.count ∙ ap (λ r. is_flag_set line.plan.verb (codes "count") r) (sym found);
+      skip_faulty = texts.skip_faulty ∙ ap (λ r. is_flag_set line.plan.verb (codes "skip-faulty") r) (sym found);
+    }
+planned_by words verb rows (Err OneOf) taken entered here is_verb texts =
+    record { is_taken = taken; lacks = subst LacksOneOf (sym (ap matches_if_verb entered ∙ here)) texts }
+planned_by words verb rows (Err (Clap e)) taken entered here is_verb texts = absurd texts
+planned_by words verb rows (Err Memory) taken entered here is_verb texts = tt
 
 -- where this verb was not entered, the matches are those of another
 passed_over : (entered : Text × List Row) (word : Text) (others : List Row)

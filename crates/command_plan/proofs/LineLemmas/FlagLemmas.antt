@@ -5,11 +5,9 @@ use Rattle.std.specs.Option.{option_map_or}
 use Rattle.std.specs.Str.{bytes_eq}
 use Rattle.std.proofs.lemmas.Bool.{cases_Bool}
 use Rattle.std.proofs.lemmas.Slice.Eq.{bytes_eq-Decides}
-use Rattle.clap.specs.Words.{ReadsOne, Text, one_text, rows_of}
+use Rattle.clap.specs.Words.{ReadsOne, Text, one_of, one_text, rows_of}
 use Rattle.clap.specs.declared.parser.matches.Found.{Found}
 use Rattle.clap.proofs.WalkLemmas.{one_text-rows}
-use Rattle.command_plan.specs.CommandLine.{is_flag_set}
-use Rattle.command_plan.specs.declared.command_line.Verb.TheVariants.{Filter}
 use Rattle.std.specs.Str.Parse.{ParsesBool}
 
 -- the text of a flag that is set
@@ -34,8 +32,8 @@ read_option E None read none value = ap (λ r. unwrap_or r false) (none refl)
 read_option E (Some t) read none value = read_text E t read (value t refl)
 
 -- what was read of a flag that `filter` has
-pub flag_read : (E : Type 0) (f : Found) (read : Option Bool) (set : Bool) → (one_text f (codes "collection") ≡ None → read ≡ None)
-    → ((t : Text) → one_text f (codes "collection") ≡ Some t → ReadsOne {E = E} (λ s r. ParsesBool s r) t read)
-    → set ≡ unwrap_or read false → set ≡ is_flag_set Filter (codes "collection") (rows_of f)
-flag_read E f read set none value is =
-    is ∙ read_option E (one_text f (codes "collection")) read none value ∙ ap (λ o. option_map_or (λ text. is_set text) o false) (one_text-rows f (codes "collection"))
+pub flag_read : (id : Text) (E : Type 0) (f : Found) (read : Option Bool) (set : Bool) → (one_text f id ≡ None → read ≡ None)
+    → ((t : Text) → one_text f id ≡ Some t → ReadsOne {E = E} (λ s r. ParsesBool s r) t read)
+    → set ≡ unwrap_or read false → set ≡ option_map_or (λ text. bytes_eq text (codes "true")) (one_of id (rows_of f)) false
+flag_read id E f read set none value is =
+    is ∙ read_option E (one_text f id) read none value ∙ ap (λ o. option_map_or (λ text. is_set text) o false) (one_text-rows f id)

@@ -1,15 +1,15 @@
 -- What a command line asks for, from what `clap` found.
-use Rattle.std.proofs.Common.{◌≡◌, ◌∙◌, [], true, false, List, Option, None, Some, refl, sym, subst, ap, ap₂, codes, option_map}
+use Rattle.std.proofs.Common.{◌≡◌, ◌∙◌, [], true, false, List, Option, None, Some, refl, sym, subst, ap, ap₂, codes, map, option_map}
 use Rattle.std.specs.Prelude.{◌||◌, is_some, unwrap_or}
 use Rattle.std.proofs.Math.Bool.{beq}
 use Rattle.std.specs.Borrow.{Bor}
-use Rattle.clap.specs.Words.{AddsArg, App, Row, Rule, Text, first_of, first_value, rows_of, rule_of, with_rule}
+use Rattle.clap.specs.Words.{AddsArg, App, Row, Rule, Text, all_of, first_of, first_value, matched_of, raw_values, rows_of, rule_of, with_rule}
 use Rattle.clap.specs.Simple.{app_of_fields}
 use Rattle.clap.specs.declared.builder.arg.Arg.{Arg}
 use Rattle.clap.specs.declared.builder.command.Command.{Command}
 use Rattle.clap.specs.declared.builder.command.Command.TheViews.{out-Command}
 use Rattle.clap.specs.declared.parser.matches.Found.{Found}
-use Rattle.clap.proofs.WalkLemmas.{first_value-rows}
+use Rattle.clap.proofs.WalkLemmas.{first_value-rows, raw_values-rows}
 use Rattle.command_plan.specs.CommandLine.{IsOneOf, LacksOneOf, option_value, text_rule}
 use Rattle.command_plan.specs.declared.command_line.Verb.TheVariants.{Filter}
 use Rattle.command_plan.specs.private.Planner.{IsApp}
@@ -92,3 +92,11 @@ rows_of_filter found = refl
 
 pub now_of_filter : (found : List Row) → option_value Filter (codes "now") found ≡ first_of (codes "now") found
 now_of_filter found = refl
+
+-- ---- the texts of an option that may be given several times
+
+-- the values that were found, or none
+pub files_found : (f : Found) (id : Text) (o : Option (Bor (List (Bor Text))))
+    → option_map (λ s. map (λ v. v.now) s.now) o ≡ option_map raw_values (matched_of f id)
+    → unwrap_or (option_map (λ s. map (λ v. v.now) s.now) o) [] ≡ unwrap_or (all_of id (rows_of f)) []
+files_found f id o same = ap (λ o. unwrap_or o []) (same ∙ raw_values-rows f id)

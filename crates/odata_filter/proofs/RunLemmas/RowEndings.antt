@@ -53,7 +53,7 @@ module _ {X F : Type 0} (items : Items X F) (text : List ℕ) where
 
 -- ---- what was written
 
-over_from : (rows : Option (Option (List ℕ))) (old new : Option (List ℕ)) (P Q : List ℕ → List ℕ → Type 0)
+pub over_from : (rows : Option (Option (List ℕ))) (old new : Option (List ℕ)) (P Q : List ℕ → List ℕ → Type 0)
     → ((bytes text : List ℕ) → P bytes text → Q bytes text) → OverRows (streams rows old new) P → OverRows (streams rows old new) Q
 over_from None old new P Q f held = held
 over_from (Some None) old new P Q f held = tt

@@ -1,66 +1,35 @@
 -- The failures of a run. Private clauses alone cite these.
-use Rattle.std.specs.Prelude.{◌≡◌, ◌⊎◌, ℕ, List, Option, None, Result, Ok, Err, IfSome, IsSomeAnd, MatchOption}
+use Rattle.std.specs.Prelude.{◌≡◌, ◌⊎◌, ℕ, List, Option, None, Some, Result, Ok, Err, IfSome, IsSomeAnd, MatchOption}
 use Rattle.std.specs.Io.KnownBytes.{Keeps}
 use Rattle.edm_values.specs.MomentLiteral.{MomentValue}
 use Rattle.edm_values.specs.MomentParts.{MomentParts}
 use Rattle.line_filter.specs.Growth.{Writes, WritesFront}
-use Rattle.odata_queries.specs.declared.query_fault.QueryFault.{QueryFault}
-use Rattle.odata_queries.specs.declared.query_fault.QueryFault.TheVariants as query
 use Rattle.command_plan.specs.declared.command_line.Verb.{Verb}
 use Rattle.command_plan.specs.declared.command_line.Verb.TheVariants.{Filter as ByRows}
 use Rattle.odata_checked_filter.specs.Calls.{UsesNow}
 use Rattle.odata_checked_filter.specs.Filter.{Filter, tree_of_filter}
-use Rattle.odata_filter.specs.Run.{IsFirstMoment, IsRefusedLine, HasNoFilter, HasNoOption, Streams, WroteNothing, OverRows, Status, StatusSays, status_number, complete, without_filter, without_plan, without_type, at_fault, without_device, without_memory}
-use Rattle.csdl_declarations.specs.declared.schema_fault.SchemaFault.{SchemaFault}
-use Rattle.csdl_declarations.specs.declared.schema_fault.SchemaFault.TheVariants as schema
+use Rattle.odata_filter.specs.Run.{IsFirstMoment, IsRefusedLine, HasNoFilter, HasNoOption, Streams, WroteNothing, OverRows, Status, StatusSays, status_number, complete, without_filter, without_plan, without_device, without_memory}
 use Rattle.command_plan.specs.declared.command_line.Plan.{Plan}
 use Rattle.odata_filter.specs.declared.command.failure.Failure.{Failure}
-use Rattle.odata_filter.specs.declared.command.failure.Failure.TheVariants.{NotAMoment, OneOf, Schema, UnknownType, Query, NoOption, Refused, NoMoment, RowsFile, Rows}
+use Rattle.odata_filter.specs.declared.command.failure.Failure.TheVariants.{RowsFile, Rows}
 use Rattle.odata_filter.specs.declared.run_fault.RunFault.{RunFault}
-use Rattle.odata_filter.specs.declared.run_fault.RunFault.TheVariants as rows
-use Rattle.odata_signatures.specs.declared.refusal.Refusal.{Refusal}
-use Rattle.odata_signatures.specs.declared.refusal.Refusal.TheVariants as refusal
-
--- running out of memory, or no schema
-abbrev pub status_of_schema : SchemaFault → Status
-status_of_schema schema.Memory = without_memory
-status_of_schema fault = without_type
-
--- running out of memory, or a query with a fault
-abbrev pub status_of_query : QueryFault → Status
-status_of_query query.Memory = without_memory
-status_of_query fault = without_filter
-
--- running out of memory, or no filter
-abbrev pub status_of_refusal : Refusal → Status
-status_of_refusal refusal.Memory = without_memory
-status_of_refusal other = without_filter
-
--- running out of memory, a device that failed, or a row at fault
-abbrev pub status_of_rows : RunFault → Status
-status_of_rows (rows.Memory line) = without_memory
-status_of_rows (rows.Read line) = without_device
-status_of_rows rows.Write = without_device
-status_of_rows fault = at_fault
-
--- how a run ends by a failure
-abbrev pub status_of : Failure → Status
-status_of NotAMoment = without_plan
-status_of OneOf = without_plan
-status_of (Schema fault) = status_of_schema fault
-status_of (UnknownType name) = without_type
-status_of (Query fault) = status_of_query fault
-status_of NoOption = without_plan
-status_of (Refused refusal) = status_of_refusal refusal
-status_of NoMoment = without_plan
-status_of (RowsFile name) = without_device
-status_of (Rows fault) = status_of_rows fault
+pub use Rattle.odata_filter.specs.FailureStatus.{status_of, status_of_query, status_of_refusal, status_of_rows, status_of_schema}
 
 -- what a failure over the rows says of them and of what was written, by what a fault says of their bytes and of a text
 abbrev pub StopsOver : (List ℕ → List ℕ → RunFault → Type 0) → Failure → Streams → Type 0
 StopsOver said (Rows fault) streams = OverRows streams (λ bytes text. said bytes text fault)
 StopsOver said (RowsFile name) streams = WroteNothing streams
 StopsOver said other streams = ⊥
+
+-- what the end of a run over rows says of them and of what was written: of a fault that, and without rows nothing
+abbrev pub EndsOver : (List ℕ → List ℕ → RunFault → Type 0) → Option RunFault → Streams → Type 0
+EndsOver said (Some fault) streams = OverRows streams (λ bytes text. said bytes text fault)
+EndsOver said None streams = WroteNothing streams
+
+-- how a run ends so
+abbrev pub status_of_end : Option RunFault → Status
+status_of_end (Some fault) = status_of_rows fault
+status_of_end None = without_device
 
 -- what is known of bytes that were read whole
 abbrev pub IsReadWhole : Option (Option (List ℕ)) → List ℕ → Type 0

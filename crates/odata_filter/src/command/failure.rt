@@ -1,5 +1,5 @@
 ghost use Rattle.std.specs.Prelude.{◌≡◌, ◌<◌, [], if◌then◌else◌};
-ghost use Rattle.odata_filter.specs.private.RunFailures.{status_of};
+ghost use Rattle.odata_filter.specs.FailureStatus.{status_of};
 ghost use Rattle.odata_filter.specs.Run.{status_number};
 
 use crate::run_fault::RunFault;

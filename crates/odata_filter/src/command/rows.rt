@@ -39,7 +39,10 @@ struct Ready<'a, 's, 'p> {
 }
 
 /// The moment for a filter: the given one, or the first one of year 1 where the filter does not ask for it.
-fn moment_for<'p>(checked: &Checked<'_>, given: Option<Moment>) -> Result<Moment, Failure<'p>>
+pub(super) fn moment_for<'p>(
+    checked: &Checked<'_>,
+    given: Option<Moment>,
+) -> Result<Moment, Failure<'p>>
     ensures moment { IfOk result (IsMomentUnlessAsked checked.now given) }
     ensures needed { IfErr result (λ failure. failure ≡ Failure.NoMoment) }
     ensures asks { IfErr result (λ _. UsesNow (tree_of_filter checked.now)) }

@@ -1,4 +1,4 @@
-ghost use Rattle.std.specs.Prelude.{◌≡◌, ◌<◌, ◌↔◌, ℕ, List, Option, Some, option_map, string_bytes};
+ghost use Rattle.std.specs.Prelude.{◌≡◌, ◌<◌, ◌↔◌, ℕ, List, Option, Some, None, option_map, string_bytes};
 ghost use Rattle.std.specs.Prelude.{IfOk, IfErr, IfSome, IsTrue, OnOk, OnErr};
 ghost use Rattle.std.specs.Io.KnownBytes.{Appends, Keeps};
 ghost use Rattle.line_filter.specs.Growth.{Writes, WritesFront};
@@ -40,7 +40,7 @@ fn given_moment<'p>(plan: &Plan<'p>) -> Result<Option<Moment>, Failure<'p>>
 }
 
 /// The same of a plan that can be carried out.
-fn planned_moment<'p>(plan: &Plan<'p>) -> Result<Option<Moment>, Failure<'p>>
+pub(super) fn planned_moment<'p>(plan: &Plan<'p>) -> Result<Option<Moment>, Failure<'p>>
     ensures planned { OnOk result (IsPlanned plan.entry.now) }
     ensures given { IfOk result (GivesMoment plan.entry.now) }
     ensures other { OnErr result (¬ IsPlanned plan.entry.now) }
@@ -53,7 +53,7 @@ fn planned_moment<'p>(plan: &Plan<'p>) -> Result<Option<Moment>, Failure<'p>>
 }
 
 /// The entity type that the plan names.
-fn entity_type<'p>(schema: &Schema, named: &'p str) -> Result<TypeId, Failure<'p>>
+pub(super) fn entity_type<'p>(schema: &Schema, named: &'p str) -> Result<TypeId, Failure<'p>>
     ensures held { IfOk result (HoldsType schema.now) }
     ensures found { IfOk result (λ id. index_named schema.now named.entry.now ≡ Some id) }
     ensures entity { IfOk result (IsEntityAt schema.now) }
@@ -95,7 +95,7 @@ fn checked_text<'s, 'p>(
 }
 
 /// The filter of the plan, or that of its query.
-fn checked_plan<'s, 'p>(
+pub(super) fn checked_plan<'s, 'p>(
     alloc: Global,
     schema: &'s Schema,
     id: TypeId,
@@ -272,7 +272,7 @@ fn is_answer(verb: Verb, failure: &Failure<'_>) -> bool
 }
 
 /// Writes a failure to standard error, after a flush of standard output, and returns the status.
-fn report_failure<W: Write, E: Write>(failure: &Failure<'_>, out: &mut W, err: &mut E) -> u8
+pub fn report_failure<W: Write, E: Write>(failure: &Failure<'_>, out: &mut W, err: &mut E) -> u8
     ensures status { result ≡ status_number (status_of failure.now) }
     ensures known { result < 7 }
     ensures kept { Keeps (W.contents out.old) (W.contents out.new) }
@@ -321,6 +321,41 @@ fn report<W: Write, E: Write>(
     }
 }
 
+/// How a run ended.
+#[derive(Drop)]
+pub struct Ended<'p> {
+    /// The exit status of the program.
+    pub status: u8,
+    /// Why the run ended before its end, if it did.
+    pub failure: Option<Failure<'p>>,
+}
+
+/// Carries out a plan as [`run`] does, and returns why it ended early beside the status.
+pub fn run_to_failure<'p, R: Read + Drop, W: Write, E: Write>(
+    alloc: Global,
+    plan: &Plan<'p>,
+    document: &[u8],
+    rows: Option<R>,
+    out: &mut W,
+    err: &mut E,
+) -> Ended<'p>
+    ensures known { result.status < 7 }
+    ensures answers { Answers result.status plan.entry.now document.now
+        (streams (option_map (λ r. R.remaining r) rows) (W.contents out.old) (W.contents out.new)) }
+    ensures done { result.failure ≡ None → result.status ≡ 0 }
+{
+    match carry_out(alloc, plan, document, rows, out) {
+        Ok(()) => Ended {
+            status: 0,
+            failure: None,
+        },
+        Err(failure) => Ended {
+            status: report(alloc, plan.verb, &failure, out, err),
+            failure: Some(failure),
+        },
+    }
+}
+
 /// Carries out a plan over the bytes of its schema file and returns the exit status of the program.
 ///
 /// `rows` is `None` if the rows file cannot be opened, which is reported last. `out` and `err` are standard output and
@@ -338,8 +373,5 @@ pub fn run<R: Read + Drop, W: Write, E: Write>(
     ensures answers { Answers result plan.entry.now document.now
         (streams (option_map (λ r. R.remaining r) rows) (W.contents out.old) (W.contents out.new)) }
 {
-    match carry_out(alloc, plan, document, rows, out) {
-        Ok(()) => 0,
-        Err(failure) => report(alloc, plan.verb, &failure, out, err),
-    }
+    run_to_failure(alloc, plan, document, rows, out, err).status
 }

@@ -1,15 +1,14 @@
 use Rattle.std.proofs.Common.{codes, false}
-use Rattle.std.proofs.lemmas.Result.{IfOk-weaker}
-use Rattle.command_plan.specs.CommandLine.{flag_rule, text_rule}
+use Rattle.command_plan.specs.CommandLine.{flag_rule, repeated_rule, text_rule}
 use Rattle.command_plan.proofs.LineLemmas.PlanLemmas.{app_arg}
 use Rattle.command_plan.proofs.planner.filter_command.Goals as goal
 
 pub returns : goal.returns
 returns c =
-    let with_rows = app_arg c.in_ok-command.command c.in_ok-arg.field-0 c.text_option-rows.result _ (text_rule (codes "rows") false)
-    c.text_option-rows.ensures.rule c.text_option-rows.ensures.local c.in_ok-arg.ensures c.in_ok-command.ensures in
+    let with_rows = app_arg c.in_ok-command.command c.in_ok-arg.field-0 c.repeated_option-rows.result _ (repeated_rule (codes "rows"))
+    c.repeated_option-rows.ensures.rule c.repeated_option-rows.ensures.local c.in_ok-arg.ensures c.in_ok-command.ensures in
     let with_now = app_arg c.in_ok-arg.field-0 c.in_ok-arg-2.field-0 c.text_option-now.result _ (text_rule (codes "now") false)
     c.text_option-now.ensures.rule c.text_option-now.ensures.local c.in_ok-arg-2.ensures with_rows in
-    IfOk-weaker c.arg-3.result _ _
-    (λ d added. app_arg c.in_ok-arg-2.field-0 d c.flag-collection.result _ (flag_rule (codes "collection"))
-    c.flag-collection.ensures.rule c.flag-collection.ensures.local added with_now) c.arg-3.ensures
+    let with_collection = app_arg c.in_ok-arg-2.field-0 c.in_ok-arg-3.field-0 c.flag-collection.result _ (flag_rule (codes "collection"))
+    c.flag-collection.ensures.rule c.flag-collection.ensures.local c.in_ok-arg-3.ensures with_now in
+    c.with_counts.ensures _ with_collection

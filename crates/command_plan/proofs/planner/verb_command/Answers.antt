@@ -1,5 +1,4 @@
 use Rattle.std.proofs.Common.{◌∙◌, ap, codes, true, false}
-use Rattle.std.proofs.lemmas.Result.{IfOk-weaker}
 use Rattle.clap.specs.Words.{new_app}
 use Rattle.command_plan.specs.CommandLine.{text_rule}
 use Rattle.command_plan.specs.private.Planner.{IsApp}
@@ -28,6 +27,6 @@ returns c =
     type_is type_local c.in_ok-arg-2.ensures one in
     let three = app_arg c.in_ok-arg-2.field-0 c.in_ok-arg-3.field-0 c.text_option-filter.result _ filter_rule
     c.text_option-filter.ensures.rule c.text_option-filter.ensures.local c.in_ok-arg-3.ensures two in
-    IfOk-weaker c.arg-4.result _ _
-    (λ d added. app_arg c.in_ok-arg-3.field-0 d c.text_option-query.result _ query_rule
-    c.text_option-query.ensures.rule c.text_option-query.ensures.local added three) c.arg-4.ensures
+    let four = app_arg c.in_ok-arg-3.field-0 c.in_ok-command.command c.text_option-query.result _ query_rule
+    c.text_option-query.ensures.rule c.text_option-query.ensures.local c.in_ok-command.ensures three in
+    c.with_form.ensures _ four

@@ -2,7 +2,7 @@ use Rattle.std.proofs.Common.{map, refl, codes}
 use Rattle.clap.specs.Words.{found_of, rows_of}
 use Rattle.command_plan.specs.declared.command_line.Verb.{Verb}
 use Rattle.command_plan.proofs.LineLemmas.Entered.{entered_at, nothing_entered, planned_by, read_by, refused_by}
-use Rattle.command_plan.proofs.planner.plan.Goals as goal
+use Rattle.command_plan.proofs.planner.read_line.Goals as goal
 
 pub returns-in-Some : goal.returns-in-Some
 returns-in-Some c =
@@ -10,9 +10,9 @@ returns-in-Some c =
     let found = c.in-Ok-try_get_matches_from in
     let read = read_by c.in-Ok.command words found.matches c.in-Ok.ensures found.ensures.matches found.ensures.kinds in
     let rows = rows_of (found_of c.in-Some.inner.now) in
-    planned_by words Verb.Filter rows c.plan_of.result read.taken
+    planned_by words Verb.Filter rows c.line_of.result read.taken
     (entered_at words found.matches (codes "filter") rows read.matches (c.in-Some.ensures.found.0 refl) c.in-Some.ensures.rows)
-    refl c.plan_of.ensures.verb c.plan_of.ensures.values
+    refl c.line_of.ensures.verb c.line_of.ensures.values
 
 pub returns-in-Some-subcommand_matches : goal.returns-in-Some-subcommand_matches
 returns-in-Some-subcommand_matches c =
@@ -20,9 +20,9 @@ returns-in-Some-subcommand_matches c =
     let found = c.in-Ok-try_get_matches_from in
     let read = read_by c.in-Ok.command words found.matches c.in-Ok.ensures found.ensures.matches found.ensures.kinds in
     let rows = rows_of (found_of c.in-Some-subcommand_matches.inner.now) in
-    planned_by words Verb.Check rows c.plan_of-in-Some-subcommand_matches.result read.taken
+    planned_by words Verb.Check rows c.line_of-in-Some-subcommand_matches.result read.taken
     (entered_at words found.matches (codes "check") rows read.matches (c.in-Some-subcommand_matches.ensures.found.0 refl) c.in-Some-subcommand_matches.ensures.rows)
-    refl c.plan_of-in-Some-subcommand_matches.ensures.verb c.plan_of-in-Some-subcommand_matches.ensures.values
+    refl c.line_of-in-Some-subcommand_matches.ensures.verb c.line_of-in-Some-subcommand_matches.ensures.values
 
 pub returns-in-Some-subcommand_matches-2 : goal.returns-in-Some-subcommand_matches-2
 returns-in-Some-subcommand_matches-2 c =
@@ -30,9 +30,9 @@ returns-in-Some-subcommand_matches-2 c =
     let found = c.in-Ok-try_get_matches_from in
     let read = read_by c.in-Ok.command words found.matches c.in-Ok.ensures found.ensures.matches found.ensures.kinds in
     let rows = rows_of (found_of c.in-Some-subcommand_matches-2.inner.now) in
-    planned_by words Verb.Explain rows c.plan_of-in-Some-subcommand_matches-2.result read.taken
+    planned_by words Verb.Explain rows c.line_of-in-Some-subcommand_matches-2.result read.taken
     (entered_at words found.matches (codes "explain") rows read.matches (c.in-Some-subcommand_matches-2.ensures.found.0 refl) c.in-Some-subcommand_matches-2.ensures.rows)
-    refl c.plan_of-in-Some-subcommand_matches-2.ensures.verb c.plan_of-in-Some-subcommand_matches-2.ensures.values
+    refl c.line_of-in-Some-subcommand_matches-2.ensures.verb c.line_of-in-Some-subcommand_matches-2.ensures.values
 
 pub returns : goal.returns
 returns c =

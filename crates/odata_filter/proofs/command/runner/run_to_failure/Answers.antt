@@ -2,7 +2,7 @@ use Rattle.std.proofs.Common.{refl, option_map}
 use Rattle.odata_filter.specs.private.RunFailures.{status_of}
 use Rattle.odata_filter.specs.Run.{complete}
 use Rattle.odata_filter.proofs.RunLemmas.RunEndings.{Answers-reported}
-use Rattle.odata_filter.proofs.command.runner.run.Goals as goal
+use Rattle.odata_filter.proofs.command.runner.run_to_failure.Goals as goal
 
 pub returns-in-Ok-clause-answers : goal.returns-in-Ok-clause-answers
 returns-in-Ok-clause-answers g c = record { status = complete; is_answer = refl; says = c.in-Ok.ensures.says; begins = c.in-Ok.ensures.begins }

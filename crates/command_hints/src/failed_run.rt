@@ -1,0 +1,43 @@
+use command_plan::command_line::Plan;
+use odata_filter::{Failure, RunFault};
+
+/// A run that failed, and what it was given.
+#[derive(Clone, Copy)]
+pub struct FailedRun<'r, 'p, 'l> {
+    pub plan: &'r Plan<'p>,
+    /// The bytes of the schema file.
+    pub document: &'r [u8],
+    pub failure: &'r Failure<'p>,
+    /// The line of the row at fault, if it is at hand.
+    pub row: Option<&'l [u8]>,
+}
+
+impl<'r> FailedRun<'r, '_, '_> {
+    /// The number of the row or line at fault, if one is.
+    pub(crate) fn line(&self) -> Option<u64> {
+        match self.failure {
+            Failure::Rows(fault) => faulty_line(fault),
+            _ => None,
+        }
+    }
+
+    /// The file that the fault is in, of a schema or of rows; none where the rows come from standard input.
+    pub(crate) fn file(&self) -> Option<&'r str> {
+        match self.failure {
+            Failure::Schema(_) => Some(self.plan.schema),
+            Failure::Rows(_) => self.plan.rows,
+            _ => None,
+        }
+    }
+}
+
+/// The line of a fault of a row.
+fn faulty_line(fault: &RunFault) -> Option<u64> {
+    match fault {
+        RunFault::Json { line }
+        | RunFault::Row { line, .. }
+        | RunFault::Arithmetic { line, .. }
+        | RunFault::LineTooLong { line } => Some(*line),
+        _ => None,
+    }
+}

@@ -1,0 +1,53 @@
+-- How the words of a command line ask a run to report.
+use Rattle.std.specs.Prelude.{◌≡◌, ◌&&◌, ◌||◌, List, Option, Some, None, codes, false, if◌then◌else◌, map, true}
+use Rattle.std.specs.Str.{bytes_eq}
+use Rattle.clap.specs.Words.{Text, first_of}
+use Rattle.command_plan.specs.CommandLine.{IsPlanOf, IsRefusedBy, is_flag_set, option_values, verb_matches}
+use Rattle.command_plan.specs.declared.command_line.Format.{Format}
+use Rattle.command_plan.specs.declared.command_line.Format.TheVariants.{Json, Text as InText}
+use Rattle.command_plan.specs.declared.command_line.Hints.{Hints}
+use Rattle.command_plan.specs.declared.command_line.Hints.TheVariants.{Always, Auto, Never}
+use Rattle.command_plan.specs.declared.command_line.Plan.{Plan}
+use Rattle.command_plan.specs.declared.command_line.Request.{Request}
+use Rattle.command_plan.specs.declared.command_line.RequestFault.{RequestFault}
+
+-- when hints are wanted, by the value of `--hints`: `auto` without one, and none of them by any other word
+abbrev pub hints_asked : Option Text → Option Hints
+hints_asked None = Some Auto
+hints_asked (Some text) =
+    if bytes_eq text (codes "auto") then Some Auto
+    else if bytes_eq text (codes "always") then Some Always
+    else if bytes_eq text (codes "never") then Some Never else None
+
+-- in which form, by the value of `--format`: `text` without one
+abbrev pub format_asked : Option Text → Option Format
+format_asked None = Some InText
+format_asked (Some text) =
+    if bytes_eq text (codes "text") then Some InText
+    else if bytes_eq text (codes "json") then Some Json else None
+
+-- the words ask for this plan, for such reports of its run, for these files of rows, and what becomes of rows at fault
+pub record IsRequestOf (words : List Text) (request : Request) : Type 0 where
+  pub plan : IsPlanOf words request.plan
+  pub hints : hints_asked (first_of (codes "hints") (verb_matches words)) ≡ Some request.hints
+  pub format : format_asked (first_of (codes "format") (verb_matches words)) ≡ Some request.format
+  pub rows : map (λ s. s.now) request.rows.items ≡ option_values request.plan.verb (codes "rows") (verb_matches words)
+  pub count : request.count ≡ is_flag_set request.plan.verb (codes "count") (verb_matches words)
+  pub is_lines : (request.plan.collection && (request.count || request.skip_faulty)) ≡ false
+  pub skip_faulty : request.skip_faulty ≡ is_flag_set request.plan.verb (codes "skip-faulty") (verb_matches words)
+
+-- the words ask for a plan, of which P holds
+abbrev pub HasPlan : List Text → (Plan → Type 0) → Type 0
+HasPlan words P = (plan : Plan) × IsPlanOf words plan × P plan
+
+-- why the words are no request: they ask for no plan; or for one, and an option has another word, or the rows are a
+-- collection and are to be counted or passed over as lines are
+abbrev pub IsNoRequest : List Text → RequestFault → Type 0
+IsNoRequest words (RequestFault.Plan fault) = IsRefusedBy words fault
+IsNoRequest words RequestFault.Hints =
+    HasPlan words (λ plan. hints_asked (first_of (codes "hints") (verb_matches words)) ≡ None)
+IsNoRequest words RequestFault.Format =
+    HasPlan words (λ plan. format_asked (first_of (codes "format") (verb_matches words)) ≡ None)
+IsNoRequest words RequestFault.Collection =
+    HasPlan words (λ plan. (plan.collection && (is_flag_set plan.verb (codes "count") (verb_matches words)
+    || is_flag_set plan.verb (codes "skip-faulty") (verb_matches words))) ≡ true)

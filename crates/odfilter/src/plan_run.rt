@@ -1,0 +1,124 @@
+//! A plan carried out, over the files that it names.
+use crate::counted_run::count_rows;
+use crate::fault_lines::{report, report_memory};
+use crate::reports::{PlanRun, report_as_json, report_hints};
+use crate::streams::{Rows, Written};
+use odata_filter::command_line::{Format, Plan, Request, Verb};
+use odata_filter::{ReadAllError, read_whole, run_to_failure};
+use std::fs::File;
+use std::io::{ErrorKind, Read, Stderr, Stdout};
+
+/// More of a schema file than this is of no use: one byte past the largest document.
+const SCHEMA_BYTES: u64 = 1_048_577;
+
+/// The bytes of the schema file, as many as matter.
+fn schema_bytes(rt: &HostRuntime, name: &str) -> Result<Vec<u8>, ReadAllError> {
+    match File::open(rt, name) {
+        Ok(file) => read_whole(rt.alloc(), &mut file.take(SCHEMA_BYTES)),
+        Err(error) if error.kind() == ErrorKind::OutOfMemory => Err(ReadAllError::Memory),
+        Err(_) => Err(ReadAllError::Read),
+    }
+}
+
+/// The rows that the plan names.
+pub fn rows_of(rt: &HostRuntime, plan: &Plan<'_>) -> Option<Rows> {
+    match plan.rows {
+        Some(name) => match File::open(rt, name) {
+            Ok(file) => Some(Rows::File(file)),
+            Err(_) => None,
+        },
+        None => Some(Rows::Stdin(rt.stdin())),
+    }
+}
+
+/// Standard output for the rows that are kept, and for what is found of a filter unless that is written as JSON.
+fn output_of(rt: &HostRuntime, request: &Request<'_>) -> Written<'static, Stdout> {
+    match (request.format, request.plan.verb) {
+        (Format::Json, Verb::Check | Verb::Explain) => Written::Nothing,
+        _ => Written::Stream(rt.stdout()),
+    }
+}
+
+/// Standard error for lines about faults, after the name of the file where there are several, unless these are written
+/// as JSON.
+pub fn faults_of<'p>(
+    rt: &HostRuntime,
+    request: &Request<'_>,
+    plan: &Plan<'p>,
+) -> Written<'p, Stderr> {
+    match (request.format, plan.rows) {
+        (Format::Json, _) => Written::Nothing,
+        (Format::Text, Some(file)) if 1 < request.rows.len() => Written::Named(file, rt.stderr()),
+        (Format::Text, _) => Written::Stream(rt.stderr()),
+    }
+}
+
+/// The file of that name, or none for `-`, which is standard input.
+fn file_named(name: &str) -> Option<&str> {
+    if name == "-" {
+        return None;
+    }
+    Some(name)
+}
+
+/// The plan over a file of rows, or over standard input for `-`.
+pub fn plan_over<'p>(plan: &Plan<'p>, file: &'p str) -> Plan<'p> {
+    Plan {
+        verb: plan.verb,
+        schema: plan.schema,
+        named: plan.named,
+        filter: plan.filter,
+        query: plan.query,
+        rows: file_named(file),
+        now: plan.now,
+        collection: plan.collection,
+    }
+}
+
+/// Opens the rows that the plan names, and carries it out over the bytes of its schema file.
+fn carry_out_over(rt: &HostRuntime, request: &Request<'_>, plan: &Plan<'_>, document: &[u8]) -> u8 {
+    let (mut out, mut err) = (output_of(rt, request), faults_of(rt, request, plan));
+    let rows = rows_of(rt, plan);
+    let ended = run_to_failure(rt.alloc(), plan, document, rows, &mut out, &mut err);
+    let run = PlanRun {
+        plan,
+        document,
+        ended: &ended,
+    };
+    match request.format {
+        Format::Text => {
+            report_hints(rt, request.hints, &run);
+            ended.status
+        }
+        Format::Json => report_as_json(rt, &run),
+    }
+}
+
+/// Carries the plan out over each file of rows, up to the first that fails.
+fn carry_out_each(rt: &HostRuntime, request: &Request<'_>, document: &[u8]) -> u8 {
+    if request.count || request.skip_faulty {
+        return count_rows(rt, request, document);
+    }
+    if request.rows.is_empty() {
+        return carry_out_over(rt, request, &request.plan, document);
+    }
+    for file in request.rows.as_slice() {
+        let plan = plan_over(&request.plan, *file);
+        let status = carry_out_over(rt, request, &plan, document);
+        if status != 0 {
+            return status;
+        }
+    }
+    0
+}
+
+/// Reads the schema file and carries the plan out. What reports a failure comes after what a run calls, in the program
+/// too, and so stays out of memory.
+pub fn carry_out(rt: &HostRuntime, request: &Request<'_>) -> u8 {
+    let name = request.plan.schema;
+    match schema_bytes(rt, name) {
+        Ok(document) => carry_out_each(rt, request, document.as_slice()),
+        Err(ReadAllError::Memory) => report_memory(rt),
+        Err(ReadAllError::Read) => report(rt, format_args!("read {name}"), 5),
+    }
+}

@@ -1,0 +1,82 @@
+//! The faults of rows that a run passes over: each is reported, and counted by its name.
+use crate::fault_lines::report;
+use command_hints::{bad_row_json, bad_row_name};
+use odata_filter::command_line::Format;
+use odata_filter::{BadRow, TakesFaults};
+use std::alloc::AllocError;
+
+/// The faults of rows so far.
+#[derive(Drop)]
+pub struct RowFaults<'r> {
+    pub rt: &'r HostRuntime,
+    pub format: Format,
+    /// Whether rows at fault are passed over.
+    pub is_passing: bool,
+    /// The file that is read, of several or for an object.
+    pub file: Option<&'r str>,
+    /// Whether lines name the file.
+    pub names_file: bool,
+    /// How many rows had the fault of that name, in the order in which the names came.
+    pub counts: Vec<(&'static str, u64)>,
+}
+
+impl RowFaults<'_> {
+    /// How many rows were at fault.
+    pub fn total(&self) -> u64 {
+        let mut total = 0u64;
+        for (_, count) in self.counts.as_slice() {
+            total = total.saturating_add(*count);
+        }
+        total
+    }
+
+    /// Counts one more fault of that name.
+    fn count(&mut self, name: &'static str) -> Result<(), AllocError> {
+        for (other, count) in self.counts.iter_mut() {
+            if *other == name {
+                *count = count.saturating_add(1);
+                return Ok(());
+            }
+        }
+        self.counts.push((name, 1))?;
+        Ok(())
+    }
+
+    /// The object of a fault, where faults are objects and there is memory for it.
+    fn object_of(&self, number: u64, fault: &BadRow) -> Option<String> {
+        match self.format {
+            Format::Json => bad_row_json(self.rt.alloc(), fault, self.file, number).ok()?,
+            Format::Text => None,
+        }
+    }
+
+    /// Writes the line of a fault.
+    fn write_line(&self, number: u64, fault: &BadRow) {
+        let _ = match self.file {
+            Some(file) if self.names_file => {
+                report(self.rt, format_args!("{file}: row {number} {fault}"), 4)
+            }
+            _ => report(self.rt, format_args!("row {number} {fault}"), 4),
+        };
+    }
+
+    /// Writes the object or the line of a fault.
+    fn write(&self, number: u64, fault: &BadRow) {
+        match self.object_of(number, fault) {
+            Some(object) => {
+                let _ = report(self.rt, object.as_str(), 4);
+            }
+            None => self.write_line(number, fault),
+        }
+    }
+}
+
+impl TakesFaults<BadRow> for RowFaults<'_> {
+    fn passes_over(&mut self, number: u64, fault: &BadRow) -> bool {
+        if !self.is_passing || fault.is_memory() || self.count(bad_row_name(fault)).is_err() {
+            return false;
+        }
+        self.write(number, fault);
+        true
+    }
+}
