@@ -3,6 +3,7 @@ package odfilter
 import (
 	"bytes"
 	"errors"
+	"fmt"
 	"os"
 	"reflect"
 	"strconv"
@@ -298,9 +299,11 @@ func TestNoGrowth(t *testing.T) {
 	calls(20_000)
 	before := residentMemory()
 	calls(100_000)
-	if after := residentMemory(); after > before+16<<20 {
+	after := residentMemory()
+	if after > before+16<<20 {
 		t.Errorf("%d bytes became %d", before, after)
 	}
+	fmt.Printf("figure: %d KiB more after a million calls\n", (after-before)/1024)
 }
 
 // residentMemory returns how many bytes of memory the process has.

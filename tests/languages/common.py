@@ -9,8 +9,8 @@ import time
 from built_program import TOP
 from library_cases import Suite
 
-__all__ = ["CLIENTS", "EXAMPLES", "TOP", "answers_suite", "environment_with", "has_done", "is_there", "kit", "kit_of"]
-__all__ += ["prints_page", "run", "text_of"]
+__all__ = ["CLIENTS", "EXAMPLES", "TOP", "answers_suite", "environment_with", "has_done", "has_figures", "is_there"]
+__all__ += ["kit", "kit_of", "on_stack", "prints_page", "run", "text_of"]
 CLIENTS = f"{TOP}/tests/clients"
 EXAMPLES = f"{TOP}/examples"
 DATA = f"{TOP}/crates/odfilter/data"
@@ -51,6 +51,19 @@ def has_done(words, **how):
     """Whether a command ended well and had nothing to warn of."""
     status, out, err = run(words, **how)
     return status == 0 and not err, (status, out.decode(errors="backslashreplace"), err)
+
+
+def on_stack(size):
+    """The words before a command that has its main thread, and the threads of C, on so many KiB of stack."""
+    return ["prlimit", f"--stack={size << 10}"]
+
+
+def has_figures(name, count, out):
+    """What a binding's tests have measured is printed: so many lines that begin with `figure: `."""
+    figures = re.findall(r"figure: (.*)", out.decode(errors="backslashreplace"))
+    for figure in figures:
+        print(f"{name}: {figure}")
+    yield f"{name}: figures", len(figures) == count, figures
 
 
 @functools.lru_cache(maxsize=None)

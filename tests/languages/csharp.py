@@ -6,7 +6,7 @@ import re
 import shutil
 import xml.etree.ElementTree
 
-from .common import CLIENTS, EXAMPLES, TOP, answers_suite, has_done, kit, prints_page, run, text_of
+from .common import CLIENTS, EXAMPLES, TOP, answers_suite, has_done, has_figures, kit, prints_page, run, text_of
 from .served import checks_of_server
 
 BINDING = f"{TOP}/bindings/csharp"
@@ -34,6 +34,7 @@ def is_built(room):
     last = out.decode().splitlines()[-1:]
     is_well = status == 0 and not err and re.fullmatch(r"[1-9]\d* passed, 0 failed", "".join(last)) is not None
     yield "the tests by mono", is_well, (status, out[-2_000:], err[-2_000:])
+    yield from has_figures("C#", 4, out)
     wanted = json.loads(text_of(f"{TOP}/include/odfilter.json"))["version"]
     for path, name in (("odfilter.nuspec", "{*}metadata/{*}version"), ("Odfilter.csproj", "PropertyGroup/Version")):
         version = xml.etree.ElementTree.fromstring(text_of(f"{BINDING}/{path}")).find(name)

@@ -2,11 +2,13 @@
 import os
 import shutil
 
-from .common import CLIENTS, EXAMPLES, TOP, answers_suite, has_done, kit, prints_page, run
+from .common import CLIENTS, EXAMPLES, TOP, answers_suite, has_done, has_figures, kit, on_stack, prints_page, run
 from .served import checks_of_server
 
 BINDING = f"{TOP}/bindings/go"
 MODULE = "example.org/odfilter"
+# KiB of stack of a thread of C that judges by the deepest filters
+STACK = 256
 
 
 def environment(room):
@@ -37,8 +39,12 @@ def is_built(room):
     yield "gofmt changes nothing", formatted[:2] == (0, b""), formatted
     more = environment(room)
     yield "go vet", *has_done(["go", "vet", "./..."], cwd=f"{room}/go", more=more)
-    status, out, err = run(["go", "test", "./..."], cwd=f"{room}/go", more=more)
-    yield "go test", status == 0 and out.startswith(b"ok"), (status, out, err)
+    yield "the tests are built", *has_done(["go", "test", "-c", "-o", "tests", "."], cwd=f"{room}/go", more=more)
+    status, out, err = run(["./tests"], cwd=f"{room}/go", more=more)
+    yield "go test", status == 0 and out.endswith(b"PASS\n"), (status, out, err)
+    yield from has_figures("Go", 3, out)
+    words = [*on_stack(STACK), "./tests", "-test.run", "TestDeepest"]
+    yield f"on threads of {STACK} KiB", *has_done(words, cwd=f"{room}/go", more=more)
 
 
 def answers(room):

@@ -4,7 +4,7 @@ import json
 import re
 import xml.etree.ElementTree
 
-from .common import CLIENTS, EXAMPLES, TOP, answers_suite, has_done, kit, prints_page, run, text_of
+from .common import CLIENTS, EXAMPLES, TOP, answers_suite, has_done, has_figures, kit, prints_page, run, text_of
 from .served import checks_of_server
 
 BINDING = f"{TOP}/bindings/java"
@@ -58,6 +58,7 @@ def is_built(room):
         last = out.decode().splitlines()[-1:]
         is_well = status == 0 and not err and re.fullmatch(r"[1-9]\d* passed, 0 failed", "".join(last)) is not None
         yield f"the tests over {name}", is_well, (status, out[-2_000:], err[-2_000:])
+        yield from has_figures(f"Java, {name}", 4, out)
     version = xml.etree.ElementTree.fromstring(text_of(f"{BINDING}/pom.xml")).find("{*}version").text
     wanted = json.loads(text_of(f"{TOP}/include/odfilter.json"))["version"]
     yield "the version of pom.xml is the library's", version == wanted, version

@@ -3,11 +3,13 @@ import glob
 import re
 import shutil
 
-from .common import CLIENTS, EXAMPLES, TOP, answers_suite, has_done, kit, prints_page, run
+from .common import CLIENTS, EXAMPLES, TOP, answers_suite, has_done, has_figures, kit, on_stack, prints_page, run
 from .served import checks_of_server
 
 BINDING = f"{TOP}/bindings/node"
 # Debian's compiler has no types of Node, so a file of the test declares those few that are used
+# KiB of stack on which the process judges by the deepest filters
+STACK = 1024
 TYPES = ["index.d.ts", "test/types.ts", "test/node.d.ts"]
 STRICT = ["--strict", "--noEmit", "--target", "es2020", "--lib", "es2020", "--moduleResolution", "node"]
 
@@ -25,6 +27,9 @@ def is_built(room):
     status, out, err = run(["node", "--test", *files], cwd=package(room))
     counts = re.search(rb"^# pass (\d+)\n# fail 0$", out, re.MULTILINE)
     yield "node --test", status == 0 and counts is not None and int(counts[1]) > 2, (status, out[-3_000:], err)
+    yield from has_figures("Node", 3, out)
+    words = [*on_stack(STACK), "node", "--test", "test/figures.test.js"]
+    yield f"on a stack of {STACK} KiB", run(words, cwd=package(room))[0] == 0, words
     yield "tsc --strict", *has_done(["tsc", *STRICT, *TYPES], cwd=package(room))
 
 

@@ -3,7 +3,7 @@ import os
 import re
 import shutil
 
-from .common import CLIENTS, EXAMPLES, TOP, answers_suite, has_done, kit, prints_page, run
+from .common import CLIENTS, EXAMPLES, TOP, answers_suite, has_done, has_figures, kit, prints_page, run
 from .served import checks_of_server
 
 BINDING = f"{TOP}/bindings/rust"
@@ -50,11 +50,12 @@ def is_built(room):
         sources += [f"{room}/rust/odfilter-sys/{name}.rs" for name in ("build", "src/lib")]
         how = ["--config-path", f"{BINDING}/rustfmt.toml"]
         yield "rustfmt changes nothing", *has_done(["rustfmt", "--check", "--edition", "2021", *how, *sources])
-    words = ["cargo", "test", "-q", "--offline", "--release"]
+    words = ["cargo", "test", "-q", "--offline", "--release", "--", "--nocapture"]
     status, out, err = run(words, cwd=f"{room}/rust", more=environment(room))
     counts = [tuple(map(int, it)) for it in re.findall(rb"^test result: ok\. (\d+) passed; (\d+) failed", out, re.M)]
     is_well = status == 0 and sum(passed for passed, _ in counts) > 10
     yield "cargo test", is_well, (status, out[-2_000:], err[-2_000:])
+    yield from has_figures("Rust", 4, out)
 
 
 def answers(room):

@@ -28,6 +28,8 @@ internal static partial class Tests
         ChecksOfClosing();
         ChecksOfThreads();
         ChecksOfGrowth();
+        ChecksOfDepth();
+        Figures();
         Console.WriteLine(passed + " passed, " + failed + " failed");
         return failed == 0 ? 0 : 1;
     }

@@ -85,6 +85,7 @@ if (!isMainThread) {
     await calls(50_000);
     const grown = process.memoryUsage.rss() - before;
     assert.ok(grown < 48 << 20, `${grown} bytes more`);
+    console.log(`figure: ${grown >> 10} KiB more after a million calls`);
   });
 }
 

@@ -113,6 +113,7 @@ final class Lifetimes {
         calls(50_000);
         long after = settled();
         that("a million calls", after < before + (64 << 20), before + " bytes became " + after);
+        System.out.println("figure: " + ((after - before) >> 10) + " KiB more after a million calls");
     }
 
     private static void calls(int rounds) {

@@ -32,6 +32,8 @@ final class Tests {
         Lifetimes.checksOfClosing();
         Lifetimes.checksOfThreads();
         Lifetimes.checksOfGrowth();
+        Figures.checksOfDepth();
+        Figures.figures();
         Check.end();
     }
 
