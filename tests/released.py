@@ -1,4 +1,5 @@
-"""What a release has: its files, its pages with links into it, a list of what is inside (SPDX). For tests/release."""
+"""What the archives of a release have: files, pages with links into them, a list of what is inside (SPDX). For
+tests/release."""
 import glob
 import gzip
 import hashlib
@@ -12,19 +13,26 @@ import uuid
 
 from built_library import MODULE, TOP
 
-__all__ = ["BILL", "PAGES", "made"]
+__all__ = ["BILL", "PAGES", "made", "made_for_arm64"]
 PAGES = "share/doc/odfilter"
 BILL = f"{PAGES}/odfilter.spdx.json"
 TOP_PAGES = ["README.md", "CHANGELOG.md", "SECURITY.md"]
 UNKNOWN = {"licenseConcluded": "NOASSERTION", "copyrightText": "NOASSERTION"}
 
 
-def files(program, kit, extension):
-    """The files of a release: where each stands in it, and where it is."""
-    yield "bin/odfilter", program
+def files_of_library(kit):
+    """The library and the pages: where each stands in an archive, and where it is."""
     for name in ("lib/libodfilter.a", "lib/libodfilter.so", "lib/libodfilter.so.0", "lib/pkgconfig/odfilter.pc"):
         yield name, f"{kit}/{name}"
     yield from ((f"include/odfilter.{kind}", f"{TOP}/include/odfilter.{kind}") for kind in ("h", "json"))
+    for path in [*(f"{TOP}/{name}" for name in TOP_PAGES), *sorted(glob.glob(f"{TOP}/docs/*.*"))]:
+        yield f"{PAGES}/{os.path.relpath(path, TOP)}", path
+
+
+def files(program, kit, extension):
+    """The files of the archive for x86-64."""
+    yield "bin/odfilter", program
+    yield from files_of_library(kit)
     yield "lib/sqlite/odfilter.so", extension
     for path in sorted(it for kind in ("*.py", "*.sql", "py.typed") for it in glob.glob(f"{MODULE}/odfilter/{kind}")):
         yield f"lib/odfilter/{os.path.basename(path)}", path
@@ -34,8 +42,8 @@ def files(program, kit, extension):
         yield from ((os.path.relpath(f"{folder}/{name}", TOP), f"{folder}/{name}") for name in sorted(names))
     for name in ("schema.json", "rows.json"):
         yield f"share/odfilter/{name}", f"{TOP}/crates/odfilter/data/{name}"
-    for path in [*(f"{TOP}/{name}" for name in TOP_PAGES), *sorted(glob.glob(f"{TOP}/docs/*.*"))]:
-        yield f"{PAGES}/{os.path.relpath(path, TOP)}", path
+    for name in ("calls.js", "page_engine.js"):
+        yield f"{PAGES}/examples/{name}", f"{TOP}/bindings/wasm/{name}"
     for folder in ("recipes", "examples"):
         paths = sorted(path for path in glob.glob(f"{TOP}/{folder}/**", recursive=True) if os.path.isfile(path))
         yield from ((f"{PAGES}/{os.path.relpath(it, TOP)}", it) for it in paths if "__pycache__" not in it)
@@ -61,13 +69,13 @@ def content(path, place, places):
         return file.read()
 
 
-def crates_below():
-    """The names of the libraries that the program and the C library stand on: those of this repository, and others."""
+def crates_below(roots):
+    """The names of the libraries that some crates stand on, and their own: those of this repository, and others."""
     stands_on = {}
     with open(f"{TOP}/crates.txt", encoding="utf-8") as file:
         for name, names in re.findall(r"^(\w+)[^:\n]*:(.*)$", file.read(), re.MULTILINE):
             stands_on[name] = names.split()
-    found, waiting = set(), ["odfilter", "odfilter_c"]
+    found, waiting = set(), [*roots]
     while waiting:
         name = waiting.pop()
         if name not in found:
@@ -76,7 +84,7 @@ def crates_below():
     return sorted(found & stands_on.keys()), sorted(found - stands_on.keys())
 
 
-def bill_of(name, version, kit_version, contents):
+def bill_of(name, version, crates, contents):
     """What is inside, as SPDX 2.3: the files by their checksums, and the libraries that were compiled in."""
     listed = []
     for number, (place, text) in enumerate(sorted(contents.items())):
@@ -84,11 +92,10 @@ def bill_of(name, version, kit_version, contents):
         listed.append({"SPDXID": f"SPDXRef-File-{number}", "fileName": f"./{place}", "checksums": sums, **UNKNOWN})
     whole = hashlib.sha1("".join(sorted(it["checksums"][0]["checksumValue"] for it in listed)).encode()).hexdigest()
     general = {"downloadLocation": "NOASSERTION", "licenseDeclared": "NOASSERTION", **UNKNOWN}
-    own, others = crates_below()
     code = {"packageVerificationCodeValue": whole, "packageVerificationCodeExcludedFiles": [f"./{BILL}"]}
     packages = [{"SPDXID": "SPDXRef-odfilter", "name": "odfilter", "versionInfo": version, "filesAnalyzed": True,
                  "packageVerificationCode": code, **general}]
-    for crate, of in [(it, version) for it in own] + [(it, kit_version) for it in others]:
+    for crate, of in crates:
         reference = "SPDXRef-crate-" + crate.replace("_", "-")
         packages.append({"SPDXID": reference, "name": crate, "versionInfo": of, "filesAnalyzed": False, **general})
     pairs = [("SPDXRef-DOCUMENT", "DESCRIBES", "SPDXRef-odfilter")]
@@ -102,14 +109,25 @@ def bill_of(name, version, kit_version, contents):
 
 
 def made(folder, program, kit, version, extension):
-    """Makes the archive in a folder: of the same files the same, byte for byte."""
-    name, found = f"odfilter-{version}-x86_64", dict(files(program, kit, extension))
+    """Makes the archive for x86-64 in a folder: of the same files the same, byte for byte."""
+    found = dict(files(program, kit, extension))
+    return packed(folder, f"odfilter-{version}-x86_64", found, version, ["odfilter", "odfilter_c"])
+
+
+def made_for_arm64(folder, kit, version):
+    """Makes the archive of the library for ARM64."""
+    return packed(folder, f"odfilter-{version}-aarch64", dict(files_of_library(kit)), version, ["odfilter_c"])
+
+
+def packed(folder, name, found, version, roots):
     places = {os.path.normpath(path): place for place, path in found.items()}
     contents = {it: content(path, it, places) for it, path in found.items() if not os.path.islink(path)}
     kit_version = subprocess.run(["rt", "version"], capture_output=True, check=True, timeout=60).stdout.decode().strip()
-    bill = bill_of(name, version, kit_version, contents)
-    packed = io.BytesIO()
-    with gzip.GzipFile("", "wb", 9, packed, mtime=0) as squeezed, tarfile.open(fileobj=squeezed, mode="w") as archive:
+    own, others = crates_below(roots)
+    crates = [(it, version) for it in own] + [(it, kit_version) for it in others]
+    bill = bill_of(name, version, crates, contents)
+    written = io.BytesIO()
+    with gzip.GzipFile("", "wb", 9, written, mtime=0) as squeezed, tarfile.open(fileobj=squeezed, mode="w") as archive:
         for place, path in [*found.items(), (BILL, f"{TOP}/README.md")]:
             text = bill if place == BILL else contents.get(place, b"")
             entry = archive.gettarinfo(path, f"{name}/{place}")
@@ -117,7 +135,7 @@ def made(folder, program, kit, version, extension):
             entry.uname = entry.gname = ""
             entry.mode, entry.size = 0o755 if entry.mode & 0o100 else 0o644, len(text)
             archive.addfile(entry, io.BytesIO(text))
-    archive_path, text = f"{folder}/{name}.tar.gz", packed.getvalue()
+    archive_path, text = f"{folder}/{name}.tar.gz", written.getvalue()
     with open(archive_path, "wb") as out:
         out.write(text)
     return archive_path, name
