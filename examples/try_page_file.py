@@ -15,7 +15,7 @@ from os.path import dirname, exists, join, realpath
 from try_page_data import START
 
 HERE = dirname(realpath(__file__))
-ENGINE = ("calls.js", "page_engine.js")
+ENGINE = ("numbers.js", "calls.js", "page_engine.js")
 POLICY = "default-src 'none'; script-src 'sha256-{script}' 'wasm-unsafe-eval'; style-src 'sha256-{style}'; "
 POLICY += "worker-src blob:; img-src data:; base-uri 'none'; form-action 'none'"
 

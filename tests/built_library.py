@@ -1,5 +1,5 @@
-"""The C library as tests and benches take it: the shared one, that for ARM64, and the module of WebAssembly. Each is the
-one that a variable names, or it is built."""
+"""The C library as tests and benches take it: the shared one, that for ARM64, and the module of WebAssembly. Each is
+the one that a variable names, or it is built."""
 import os
 import subprocess
 

@@ -70,8 +70,8 @@ def of_go(room, kit, package):
     written(f"{offered}/{version}.mod", module)
     written(f"{offered}/{version}.info", json.dumps({"Version": version}))
     shutil.copy(package, f"{offered}/{version}.zip")
-    more = {"GOFLAGS": "-mod=mod -modcacherw", "GOPROXY": f"file://{room}/proxy", "GOSUMDB": "off", "GOTOOLCHAIN": "local"}
-    more |= {"GOCACHE": f"{room}/go-cache", "GOPATH": f"{room}/go-path", "CGO_ENABLED": "1"}
+    more = {"GOFLAGS": "-mod=mod -modcacherw", "GOPROXY": f"file://{room}/proxy", "GOSUMDB": "off"}
+    more |= {"GOCACHE": f"{room}/go-cache", "GOPATH": f"{room}/go-path", "CGO_ENABLED": "1", "GOTOOLCHAIN": "local"}
     written(f"{room}/program/go.mod", "module example.org/program\n\ngo 1.19\n")
     done = run(["go", "get", f"{MODULE}@{version}"], cwd=f"{room}/program", more=more)
     yield "go get takes it from a proxy", done[0] == 0, done
@@ -115,7 +115,8 @@ def of_csharp(room, kit, package):
     yield from has_library(room, f"{native}/libodfilter.so", kit, "libodfilter.so")
     shutil.copy(f"{room}/lib/netstandard2.0/Odfilter.dll", room)
     words = ["bash", "-c", "mcs -r:Odfilter.dll -out:Page.exe Page.cs && exec mono Page.exe"]
-    yield from prints_page(room, page_of("csharp"), "csharp", f"{room}/Page.cs", words, more={"LD_LIBRARY_PATH": native})
+    more = {"LD_LIBRARY_PATH": native}
+    yield from prints_page(room, page_of("csharp"), "csharp", f"{room}/Page.cs", words, more=more)
 
 
 # of each language what its script leaves, and what tries that

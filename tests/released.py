@@ -42,7 +42,7 @@ def files(program, kit, extension):
         yield from ((os.path.relpath(f"{folder}/{name}", TOP), f"{folder}/{name}") for name in sorted(names))
     for name in ("schema.json", "rows.json"):
         yield f"share/odfilter/{name}", f"{TOP}/crates/odfilter/data/{name}"
-    for name in ("calls.js", "page_engine.js"):
+    for name in ("numbers.js", "calls.js", "page_engine.js"):
         yield f"{PAGES}/examples/{name}", f"{TOP}/bindings/wasm/{name}"
     for folder in ("recipes", "examples"):
         paths = sorted(path for path in glob.glob(f"{TOP}/{folder}/**", recursive=True) if os.path.isfile(path))

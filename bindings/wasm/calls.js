@@ -6,30 +6,19 @@
  *     const answer = odfilter.newAnswer();
  *     const filter = odfilter.check(type, new TextEncoder().encode('Rating ge 3'), answer);
  *
- * Bytes and buffers are Uint8Arrays; a buffer is written as far as a text goes. A call that makes a handle returns it,
- * or the number of its status, and every other call the number of its status. An answer is a Float64Array of the
- * header's fields in their order. A handle is freed by `free`, once. */
+ * Their names are the header's: odfilter_check_url is checkUrl. Bytes and buffers are Uint8Arrays; a buffer is written
+ * as far as a text goes. A call that makes a handle returns it, or the number of its status, and every other call the
+ * number of its status. An answer is an object with the header's fields, as pieceStart. A handle is freed by `free`,
+ * once.
+ *
+ * In a page this script stands after numbers.js. */
 function odfilterCalls(instance) {
+  const numbers = typeof module === 'undefined' ? odfilterNumbers : require('./numbers.js');
   const { memory, allocate, release, ...library } = instance.exports;
-  // in their order in the header: numbers of 4 bytes, then of 8
-  const FIELDS = ['fault', 'verdict', 'start', 'stop', 'number', 'length', 'first', 'rows', 'kept', 'pieceStart',
-    'pieceStop', 'valueStart', 'valueStop'];
-  const ANSWER_SIZE = 96, PLACE_SIZE = 8, NULL_STATUS = 1, MEMORY = 5;
-  // what each call is given: h a handle or null, b bytes, w a buffer, m the variable of a handle, a an answer, f an
-  // answer that is read, n a number of 4 bytes, u one of 8
-  const GIVEN = {
-    readSchema: ['read_schema', 'bwma'], findType: ['find_type', 'hbm'], check: ['check', 'hbma'],
-    checkQuery: ['check_query', 'hbma'], checkUrl: ['check_url', 'hbwma'], canonical: ['canonical', 'hwa'],
-    explain: ['explain', 'hwa'], propertyPaths: ['property_paths', 'hwa'], needsMoment: ['needs_moment', 'ha'],
-    nodeCount: ['node_count', 'ha'], lambdaDepth: ['lambda_depth', 'ha'], sql: ['sql', 'hnbwa'],
-    newJudge: ['new_judge_of', 'hm'], setMoment: ['set_moment', 'hb'], setBound: ['set_bound', 'hu'],
-    judge: ['judge_next', 'hba'], filterLines: ['filter_lines', 'hhbwa'], path: ['path', 'hwa'],
-    version: ['version', 'wa'], statusName: ['status_name', 'nwa'], faultName: ['fault_name', 'nnwa'],
-    faultText: ['fault_text', 'hnbwfa'],
-  };
+  const { STATUS, ANSWER_SIZE } = numbers, FIELDS = Object.entries(numbers.ANSWER), PLACE_SIZE = 8;
   let scratch = 0, scratchSize = 0;
 
-  const newAnswer = () => new Float64Array(FIELDS.length);
+  const newAnswer = () => Object.fromEntries(FIELDS.map(([name]) => [name, 0]));
   const aligned = (size) => Math.ceil(size / 8) * 8;
 
   /** Memory of the module for what one call is given, which the next call has again; 0 where there is none. */
@@ -45,16 +34,17 @@ function odfilterCalls(instance) {
 
   function readAnswer(at, answer) {
     const view = new DataView(memory.buffer, at, ANSWER_SIZE);
-    answer[0] = view.getUint32(0, true);
-    answer[1] = view.getUint32(4, true);
-    for (let field = 2; field < FIELDS.length; field++) answer[field] = Number(view.getBigUint64(8 * field - 8, true));
+    for (const [name, [offset, size]] of FIELDS) {
+      answer[name] = size === 4 ? view.getUint32(offset, true) : Number(view.getBigUint64(offset, true));
+    }
   }
 
   function writeAnswer(at, answer) {
     const view = new DataView(memory.buffer, at, ANSWER_SIZE);
-    view.setUint32(0, answer[0], true);
-    view.setUint32(4, answer[1], true);
-    for (let field = 2; field < FIELDS.length; field++) view.setBigUint64(8 * field - 8, BigInt(answer[field]), true);
+    for (const [name, [offset, size]] of FIELDS) {
+      if (size === 4) view.setUint32(offset, answer[name], true);
+      else view.setBigUint64(offset, BigInt(answer[name]), true);
+    }
   }
 
   const SIZE_OF = { m: () => PLACE_SIZE, a: () => ANSWER_SIZE, f: () => ANSWER_SIZE, h: () => 0, n: () => 0, u: () => 0,
@@ -63,7 +53,7 @@ function odfilterCalls(instance) {
   function call(name, kinds, given) {
     const parts = [...kinds].map((kind, number) => [kind, given[number], 0]);
     let at = scratchOf(parts.reduce((sum, [kind, it]) => sum + SIZE_OF[kind](it), 0));
-    if (!at) return MEMORY;
+    if (!at) return STATUS.MEMORY;
     const words = [];
     for (const part of parts) {
       const [kind, it] = part;
@@ -82,15 +72,16 @@ function odfilterCalls(instance) {
     const view = new DataView(memory.buffer);
     let made = null;
     for (const [kind, it, place] of parts) {
-      if (kind === 'a' && status !== NULL_STATUS) readAnswer(place, it);
+      if (kind === 'a' && status !== STATUS.NULL) readAnswer(place, it);
       if (kind === 'w') it.set(new Uint8Array(memory.buffer, place, it.length));
-      if (kind === 'm' && status === 0) made = { address: Number(view.getBigUint64(place, true)) };
+      if (kind === 'm' && status === STATUS.OK) made = { address: Number(view.getBigUint64(place, true)) };
     }
     return made ?? status;
   }
 
-  const calls = { FIELDS, newAnswer };
-  for (const [name, [called, kinds]] of Object.entries(GIVEN)) {
+  const calls = { newAnswer, STATUS, VERDICT: numbers.VERDICT, SCHEMA_NAMES: numbers.SCHEMA_NAMES };
+  for (const [called, kinds] of Object.entries(numbers.CALLS)) {
+    const name = called.replace(/_(.)/g, (_, letter) => letter.toUpperCase());
     // a variable of a handle is no parameter: the handle is returned
     const shown = [...kinds].filter((kind) => kind !== 'm');
     calls[name] = (...given) => {
@@ -101,7 +92,7 @@ function odfilterCalls(instance) {
   }
   calls.free = (handle) => {
     const at = scratchOf(PLACE_SIZE);
-    if (!at) return MEMORY;
+    if (!at) return STATUS.MEMORY;
     new DataView(memory.buffer).setBigUint64(at, BigInt(handle.address), true);
     handle.address = 0;
     return library.odfilter_free(at);

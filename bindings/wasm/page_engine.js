@@ -4,33 +4,29 @@
 const BOUND = 1000000; // what the filter may cost on a row
 const SECONDS = 5; // in which the rows of one question are judged; those that are left then have no verdict
 const LINE_LIMIT = 1 << 20; // bytes of a row
-const OK = 0, TOO_SMALL = 4, ROW_FAULT = 22, TOO_COSTLY = 25;
 const DECODER = new TextDecoder('utf-8', { ignoreBOM: true });
-// the fields of an answer, in their order
-const FAULT = 0, VERDICT = 1, START = 2, STOP = 3, NUMBER = 4, LENGTH = 5, FIRST = 6;
 const VERDICTS = ['false', 'true', 'null'];
-// how many names each fault of a schema carries
-const SCHEMA_NAMES = [0, 0, 0, 0, 1, 2, 1, 1, 2, 2, 0];
 
 class Engine {
   constructor(instance) {
     this.calls = odfilterCalls(instance);
+    this.STATUS = this.calls.STATUS;
     this.document = undefined;
   }
 
   /** The text that a call writes into a buffer, which grows to what it needs; undefined where it writes none. */
   written(call) {
     const answer = this.calls.newAnswer();
-    for (let size = 1024; ; size = answer[LENGTH]) {
+    for (let size = 1024; ; size = answer.length) {
       const buffer = new Uint8Array(size);
       const status = call(buffer, answer);
-      if (status === OK) return DECODER.decode(buffer.subarray(0, answer[LENGTH]));
-      if (status !== TOO_SMALL) return undefined;
+      if (status === this.STATUS.OK) return DECODER.decode(buffer.subarray(0, answer.length));
+      if (status !== this.STATUS.TOO_SMALL) return undefined;
     }
   }
 
   nameOf(status, answer) {
-    const name = this.written((text, said) => this.calls.faultName(status, answer[FAULT], text, said));
+    const name = this.written((text, said) => this.calls.faultName(status, answer.fault, text, said));
     return name ?? this.nameOfStatus(status);
   }
 
@@ -62,14 +58,14 @@ class Engine {
         [this.schema, this.document] = [made, text];
         return undefined;
       }
-      if (answer[LENGTH] <= size) return this.schemaFault(made, names.subarray(0, answer[LENGTH]), answer, text);
-      size = answer[LENGTH];
+      if (answer.length <= size) return this.schemaFault(made, names.subarray(0, answer.length), answer, text);
+      size = answer.length;
     }
   }
 
   schemaFault(status, names, answer, text) {
-    const both = [names.subarray(0, answer[FIRST]), names.subarray(answer[FIRST])].map((it) => DECODER.decode(it));
-    const words = ['schema', this.nameOf(status, answer), ...both.slice(0, SCHEMA_NAMES[answer[FAULT]] ?? 0)];
+    const both = [names.subarray(0, answer.first), names.subarray(answer.first)].map((it) => DECODER.decode(it));
+    const words = ['schema', this.nameOf(status, answer), ...both.slice(0, this.calls.SCHEMA_NAMES[answer.fault] ?? 0)];
     const isXml = text.replace(/^[\ufeff \t\r\n]+/, '').startsWith('<');
     const hint = isXml ? 'This is XML: recipes/csdl_json.py makes a schema of it.' : '';
     return { ...this.shown(null, status, names, answer, words.join(' ')), hint };
@@ -110,22 +106,22 @@ class Engine {
   }
 
   refusal(type, status, filter, answer) {
-    const name = this.nameOf(status, answer), line = `refused ${name} ${answer[START]}..${answer[STOP]}`;
-    const [start, stop] = [answer[START], answer[STOP]].map((it) => unitsBefore(filter, it));
+    const name = this.nameOf(status, answer), line = `refused ${name} ${answer.start}..${answer.stop}`;
+    const [start, stop] = [answer.start, answer.stop].map((it) => unitsBefore(filter, it));
     return { ...this.shown(type, status, filter, answer, line), name, start, stop };
   }
 
   /** Of each line with a row its number, from 0, and its verdict; nothing where the moment is at fault. */
   judged(type, filter, asked, bytes) {
     if (!bytes.rows || !bytes.now) return { moment: noText() };
-    const judge = this.calls.newJudge(filter), answer = this.calls.newAnswer();
+    const judge = this.calls.newJudgeOf(filter), answer = this.calls.newAnswer();
     if (typeof judge === 'number') throw new Error(this.nameOfStatus(judge));
     try {
       this.calls.setBound(judge, BOUND);
       this.calls.needsMoment(filter, answer);
-      if (answer[NUMBER] === 1) {
+      if (answer.number === 1) {
         const status = this.calls.setMoment(judge, bytes.now);
-        if (status !== OK) {
+        if (status !== this.STATUS.OK) {
           const fault = this.shown(null, status, bytes.now, this.calls.newAnswer(), '');
           return { moment: fault };
         }
@@ -149,14 +145,15 @@ class Engine {
     if (performance.now() > ends) {
       return { fault: 'NotJudged', path: '', sentence: `The rows before this one took ${SECONDS} seconds.` };
     }
-    const answer = this.calls.newAnswer(), status = this.calls.judge(judge, row, answer);
-    if (status === OK) return VERDICTS[answer[VERDICT]];
-    if (status === TOO_COSTLY) {
+    const answer = this.calls.newAnswer(), status = this.calls.judgeNext(judge, row, answer);
+    if (status === this.STATUS.OK) return VERDICTS[answer.verdict];
+    if (status === this.STATUS.TOO_COSTLY) {
       const sentence = `The filter costs more than ${BOUND.toLocaleString('en')} on this row.`;
       return { fault: 'TooCostly', path: '', sentence };
     }
-    const path = status === ROW_FAULT ? this.written((text, said) => this.calls.path(judge, text, said)) : '';
-    return { fault: this.nameOf(status, answer), path, sentence: this.sentenceOf(type, status, utf8(path), answer) };
+    const path = status === this.STATUS.ROW_FAULT && this.written((text, said) => this.calls.path(judge, text, said));
+    const sentence = this.sentenceOf(type, status, utf8(path || ''), answer);
+    return { fault: this.nameOf(status, answer), path: path || '', sentence };
   }
 }
 

@@ -18,7 +18,7 @@ const DOCUMENT = JSON.stringify({
   },
 });
 const ROW = '{"ID":1,"Name":"abc","Active":true,"Changed":"2026-01-01T00:00:00Z","Tags":["a","b","c"]}';
-const TOO_SMALL = 4, TOO_COSTLY = 25, VERDICT = odfilter.FIELDS.indexOf('verdict'), LENGTH = odfilter.FIELDS.indexOf('length');
+const { STATUS, VERDICT } = odfilter;
 const utf8 = (text) => new TextEncoder().encode(text);
 const answer = odfilter.newAnswer(), buffer = new Uint8Array(1 << 20), row = utf8(ROW);
 const type = odfilter.findType(odfilter.readSchema(utf8(DOCUMENT), buffer, answer), utf8('Mini.Item'));
@@ -40,15 +40,15 @@ function figure(name, times, call) {
 }
 
 function judged(text) {
-  const filter = checked(text), judge = odfilter.newJudge(filter);
+  const filter = checked(text), judge = odfilter.newJudgeOf(filter);
   odfilter.setBound(judge, 1000);
   for (const write of [odfilter.canonical, odfilter.explain]) {
     const status = write(filter, buffer, answer);
-    assert.ok(answer[LENGTH] > 500 && (status === 0 || (status === TOO_SMALL && answer[LENGTH] > buffer.length)));
+    assert.ok(answer.length > 500 && (status === 0 || (status === STATUS.TOO_SMALL && answer.length > buffer.length)));
   }
-  const status = odfilter.judge(judge, row, answer), verdict = answer[VERDICT];
+  const status = odfilter.judgeNext(judge, row, answer), verdict = answer.verdict;
   for (const handle of [judge, filter]) odfilter.free(handle);
-  return status || verdict === 1;
+  return status || verdict === VERDICT.TRUE;
 }
 
 const open = Array.from({ length: 64 }, (_, number) => `Tags/any(x${number}:`).join('');
@@ -57,11 +57,11 @@ const deepest = [
   `${'Active in (true,false or true and true eq '.repeat(64)}Active${')'.repeat(64)}`,
   `${open}x0 eq Name${')'.repeat(64)}`,
 ];
-assert.deepEqual(deepest.map(judged), [true, true, true, TOO_COSTLY]);
-const filter = checked("Active and contains(Name,'a')"), judge = odfilter.newJudge(filter);
+assert.deepEqual(deepest.map(judged), [true, true, true, STATUS.TOO_COSTLY]);
+const filter = checked("Active and contains(Name,'a')"), judge = odfilter.newJudgeOf(filter);
 const size = instance.exports.memory.buffer.byteLength;
-figure(`a row of ${row.length} bytes`, 1_000_000, () => odfilter.judge(judge, row, answer));
-assert.equal(answer[VERDICT], 1);
+figure(`a row of ${row.length} bytes`, 1_000_000, () => odfilter.judgeNext(judge, row, answer));
+assert.equal(answer.verdict, VERDICT.TRUE);
 const text = "Active and ID gt 1 and contains(Name,'abc') or ID in (1,2,3)";
 figure(`a check of ${text.length} bytes`, 20_000, () => odfilter.free(checked(text)));
 const grown = instance.exports.memory.buffer.byteLength - size;

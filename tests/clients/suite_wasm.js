@@ -8,16 +8,14 @@ const { odfilterCalls } = require(callsPath);
 const module_ = new WebAssembly.Module(fs.readFileSync(modulePath));
 if (WebAssembly.Module.imports(module_).length) throw new Error('the module imports something');
 const odfilter = odfilterCalls(new WebAssembly.Instance(module_));
-const OK = 0, TOO_SMALL = 4, NO_FILTER = 7, QUERY_FAULT = 20, JSON_FAULT = 21, ROW_FAULT = 22, LINE_TOO_LONG = 24;
-const [FAULT, VERDICT, START, STOP, NUMBER, LENGTH, FIRST] = [0, 1, 2, 3, 4, 5, 6];
-const PIECE_START = 9, PIECE_STOP = 10, VALUE_START = 11, VALUE_STOP = 12;
-const SCHEMA_NAMES = [0, 0, 0, 0, 1, 2, 1, 1, 2, 2, 0];
+const { STATUS, SCHEMA_NAMES } = odfilter;
+const VERDICTS = ['false', 'true', 'null'];
 const GIVEN = { schema: 1, type: 1, filter: 1, query: 1, url: 1, canonical: 0, explain: 0, row: 2, lines: 2 };
 const held = { schema: null, type: null, filter: null, judge: null };
 
 function free(...names) {
   for (const name of names) {
-    if (held[name] && odfilter.free(held[name]) !== OK) throw new Error(`${name} is not freed`);
+    if (held[name] && odfilter.free(held[name]) !== STATUS.OK) throw new Error(`${name} is not freed`);
     held[name] = null;
   }
 }
@@ -26,46 +24,46 @@ function free(...names) {
 function written(call) {
   const answer = odfilter.newAnswer();
   let buffer = Buffer.alloc(0), status = call(buffer, answer);
-  if (status === TOO_SMALL) {
-    buffer = Buffer.alloc(answer[LENGTH]);
+  if (status === STATUS.TOO_SMALL) {
+    buffer = Buffer.alloc(answer.length);
     status = call(buffer, answer);
   }
-  if (status !== OK) throw new Error(`a text that is not written: ${status}`);
-  return buffer.subarray(0, answer[LENGTH]);
+  if (status !== STATUS.OK) throw new Error(`a text that is not written: ${status}`);
+  return buffer.subarray(0, answer.length);
 }
 
 function nameOf(status, answer) {
-  return written((text, said) => odfilter.faultName(status, answer[FAULT], text, said)).toString();
+  return written((text, said) => odfilter.faultName(status, answer.fault, text, said)).toString();
 }
 
 function keep(name, made) {
   if (typeof made === 'number') return made;
   held[name] = made;
-  return OK;
+  return STATUS.OK;
 }
 
 function schema(document) {
   free('judge', 'filter', 'type', 'schema');
   const answer = odfilter.newAnswer();
   let names = Buffer.alloc(0), status = keep('schema', odfilter.readSchema(document, names, answer));
-  if (status === OK) return 'accepted';
-  names = Buffer.alloc(answer[LENGTH]);
+  if (status === STATUS.OK) return 'accepted';
+  names = Buffer.alloc(answer.length);
   status = keep('schema', odfilter.readSchema(document, names, answer));
-  const both = [names.subarray(0, answer[FIRST]), names.subarray(answer[FIRST])].map(String);
-  return [nameOf(status, answer), ...both.slice(0, SCHEMA_NAMES[answer[FAULT]])].join(' ');
+  const both = [names.subarray(0, answer.first), names.subarray(answer.first)].map(String);
+  return [nameOf(status, answer), ...both.slice(0, SCHEMA_NAMES[answer.fault])].join(' ');
 }
 
 function type(name) {
   free('judge', 'filter', 'type');
-  return keep('type', odfilter.findType(held.schema, name)) === OK ? 'found' : 'unknown';
+  return keep('type', odfilter.findType(held.schema, name)) === STATUS.OK ? 'found' : 'unknown';
 }
 
 function checked(made, answer) {
   const status = keep('filter', made);
-  if (status === OK) return 'accepted';
-  if (status === NO_FILTER) return 'no filter';
-  if (status === QUERY_FAULT) return `refused query ${nameOf(status, answer)} ${answer[NUMBER]}`;
-  return `refused ${nameOf(status, answer)} ${answer[START]}..${answer[STOP]}`;
+  if (status === STATUS.OK) return 'accepted';
+  if (status === STATUS.NO_FILTER) return 'no filter';
+  if (status === STATUS.QUERY_FAULT) return `refused query ${nameOf(status, answer)} ${answer.number}`;
+  return `refused ${nameOf(status, answer)} ${answer.start}..${answer.stop}`;
 }
 
 function asked(call, given) {
@@ -78,35 +76,36 @@ function url(query) {
   free('judge', 'filter');
   const answer = odfilter.newAnswer(), text = Buffer.alloc(query.length);
   const said = checked(odfilter.checkUrl(held.type, query, text, answer), answer);
-  if (!answer[PIECE_STOP]) return said;
-  const places = [PIECE_START, PIECE_STOP, VALUE_START, VALUE_STOP].map((field) => answer[field]).join(' ');
-  return `${said}\n${places}\n${text.subarray(0, answer[LENGTH])}`;
+  if (!answer.pieceStop) return said;
+  const places = [answer.pieceStart, answer.pieceStop, answer.valueStart, answer.valueStop].join(' ');
+  return `${said}\n${places}\n${text.subarray(0, answer.length)}`;
 }
 
 function judgeAt(moment) {
   free('judge');
-  if (keep('judge', odfilter.newJudge(held.filter)) !== OK) throw new Error('no judge');
-  if (moment.length && odfilter.setMoment(held.judge, moment) !== OK) throw new Error('no moment');
+  if (keep('judge', odfilter.newJudgeOf(held.filter)) !== STATUS.OK) throw new Error('no judge');
+  if (moment.length && odfilter.setMoment(held.judge, moment) !== STATUS.OK) throw new Error('no moment');
   return held.judge;
 }
 
 function rowFault(status, answer) {
-  if (status === JSON_FAULT) return 'Json';
-  if (status === LINE_TOO_LONG) return 'LineTooLong';
-  const path = status === ROW_FAULT ? String(written((text, said) => odfilter.path(held.judge, text, said))) : '';
+  if (status === STATUS.JSON_FAULT) return 'Json';
+  if (status === STATUS.LINE_TOO_LONG) return 'LineTooLong';
+  if (status !== STATUS.ROW_FAULT) return nameOf(status, answer);
+  const path = String(written((text, said) => odfilter.path(held.judge, text, said)));
   return path ? `${nameOf(status, answer)} ${path}` : nameOf(status, answer);
 }
 
 function row(bytes, moment) {
-  const answer = odfilter.newAnswer(), status = odfilter.judge(judgeAt(moment), bytes, answer);
-  return status === OK ? ['false', 'true', 'null'][answer[VERDICT]] : rowFault(status, answer);
+  const answer = odfilter.newAnswer(), status = odfilter.judgeNext(judgeAt(moment), bytes, answer);
+  return status === STATUS.OK ? VERDICTS[answer.verdict] : rowFault(status, answer);
 }
 
 function lines(rows, moment) {
   const answer = odfilter.newAnswer(), kept = Buffer.alloc(rows.length + 1);
   const status = odfilter.filterLines(held.filter, judgeAt(moment), rows, kept, answer);
-  const fault = status === OK ? '' : `row ${answer[NUMBER]} ${rowFault(status, answer)}`;
-  return Buffer.concat([Buffer.from(`${fault}\n`), kept.subarray(0, answer[LENGTH])]);
+  const fault = status === STATUS.OK ? '' : `row ${answer.number} ${rowFault(status, answer)}`;
+  return Buffer.concat([Buffer.from(`${fault}\n`), kept.subarray(0, answer.length)]);
 }
 
 const ANSWERS = {
