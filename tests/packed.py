@@ -5,6 +5,7 @@ import glob
 import hashlib
 import json
 import os
+import re
 import shutil
 import tarfile
 import zipfile
@@ -41,6 +42,12 @@ def has_library(room, path, kit, name):
     yield f"{os.path.relpath(path, room)} is the library", bytes_of(path) == bytes_of(wanted), os.path.getsize(path)
 
 
+def stands_alone(room, page):
+    """A package's page has no link to a file, which would lead nowhere."""
+    links = re.findall(r"\]\((?!https?:|#)([^)\s]*)\)", bytes_of(page).decode())
+    yield f"{os.path.relpath(page, room)} has no link that leads nowhere", not links, links
+
+
 def of_python(room, _, wheel):
     with zipfile.ZipFile(wheel) as file:
         file.extractall(f"{room}/site")
@@ -54,6 +61,7 @@ def of_npm(name):
     def checks(room, _, package):
         words = ["npm", "install", "--offline", "--no-audit", "--no-fund", "--silent", package]
         yield f"npm installs {os.path.basename(package)}", *has_done(words, cwd=room)
+        yield from stands_alone(room, *glob.glob(f"{room}/node_modules/*/README.md"))
         yield from prints_page(room, page_of(name), "js", f"{room}/page.js", ["node", "page.js"])
 
     return checks
@@ -75,7 +83,9 @@ def of_go(room, kit, package):
     written(f"{room}/program/go.mod", "module example.org/program\n\ngo 1.19\n")
     done = run(["go", "get", f"{MODULE}@{version}"], cwd=f"{room}/program", more=more)
     yield "go get takes it from a proxy", done[0] == 0, done
-    yield from has_library(room, f"{room}/go-path/pkg/mod/{head}/lib/linux_amd64/libodfilter.a", kit, "libodfilter.a")
+    installed = f"{room}/go-path/pkg/mod/{head}"
+    yield from has_library(room, f"{installed}/lib/linux_amd64/libodfilter.a", kit, "libodfilter.a")
+    yield from stands_alone(room, f"{installed}/README.md")
     words, to = ["go", "run", "."], f"{room}/program"
     yield from prints_page(to, page_of("go"), "go", f"{to}/main.go", words, more=more)
 
@@ -88,6 +98,7 @@ def of_rust(room, kit, *crates):
         sums = {"files": {}, "package": hashlib.sha256(bytes_of(path)).hexdigest()}
         folder = os.path.basename(path).removesuffix(".crate")
         written(f"{room}/crates/{folder}/.cargo-checksum.json", json.dumps(sums))
+    yield from stands_alone(room, *glob.glob(f"{room}/crates/odfilter-[0-9]*/README.md"))
     archive, = glob.glob(f"{room}/crates/odfilter-sys-*/lib/libodfilter.a")
     yield from has_library(room, archive, kit, "libodfilter.a")
     written(f"{room}/Cargo.toml", CRATE)
@@ -111,6 +122,7 @@ def of_csharp(room, kit, package):
         file.extractall(room)
     wanted = {"[Content_Types].xml", "_rels/.rels", "odfilter.nuspec", "README.md"}
     yield "what NuGet reads first is there", wanted <= {*names}, names
+    yield from stands_alone(room, f"{room}/README.md")
     native = f"{room}/runtimes/linux-x64/native"
     yield from has_library(room, f"{native}/libodfilter.so", kit, "libodfilter.so")
     shutil.copy(f"{room}/lib/netstandard2.0/Odfilter.dll", room)
