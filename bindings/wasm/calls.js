@@ -15,10 +15,11 @@
 function odfilterCalls(instance) {
   const numbers = typeof module === 'undefined' ? odfilterNumbers : require('./numbers.js');
   const { memory, allocate, release, ...library } = instance.exports;
-  const { STATUS, ANSWER_SIZE } = numbers, FIELDS = Object.entries(numbers.ANSWER), PLACE_SIZE = 8;
+  const { STATUS, ANSWER, ANSWER_SIZE } = numbers, PLACE_SIZE = 8;
+  const NAMES = Object.keys(ANSWER), [OFFSETS, SIZES] = [0, 1].map((at) => Object.values(ANSWER).map((it) => it[at]));
   let scratch = 0, scratchSize = 0;
 
-  const newAnswer = () => Object.fromEntries(FIELDS.map(([name]) => [name, 0]));
+  const newAnswer = () => Object.fromEntries(NAMES.map((name) => [name, 0]));
   const aligned = (size) => Math.ceil(size / 8) * 8;
 
   /** Memory of the module for what one call is given, which the next call has again; 0 where there is none. */
@@ -34,60 +35,69 @@ function odfilterCalls(instance) {
 
   function readAnswer(at, answer) {
     const view = new DataView(memory.buffer, at, ANSWER_SIZE);
-    for (const [name, [offset, size]] of FIELDS) {
-      answer[name] = size === 4 ? view.getUint32(offset, true) : Number(view.getBigUint64(offset, true));
+    for (let field = 0; field < NAMES.length; field++) {
+      const offset = OFFSETS[field];
+      answer[NAMES[field]] = SIZES[field] === 4 ? view.getUint32(offset, true) : Number(view.getBigUint64(offset, true));
     }
   }
 
   function writeAnswer(at, answer) {
     const view = new DataView(memory.buffer, at, ANSWER_SIZE);
-    for (const [name, [offset, size]] of FIELDS) {
-      if (size === 4) view.setUint32(offset, answer[name], true);
-      else view.setBigUint64(offset, BigInt(answer[name]), true);
+    for (let field = 0; field < NAMES.length; field++) {
+      if (SIZES[field] === 4) view.setUint32(OFFSETS[field], answer[NAMES[field]], true);
+      else view.setBigUint64(OFFSETS[field], BigInt(answer[NAMES[field]]), true);
     }
   }
 
-  const SIZE_OF = { m: () => PLACE_SIZE, a: () => ANSWER_SIZE, f: () => ANSWER_SIZE, h: () => 0, n: () => 0, u: () => 0,
-    b: (it) => aligned(it.length) + 8, w: (it) => aligned(it.length) + 8 };
+  /** How many bytes of the module's memory something takes that is given. */
+  function sizeOf(kind, it) {
+    if (kind === 'b' || kind === 'w') return aligned(it.length) + 8;
+    if (kind === 'a' || kind === 'f') return ANSWER_SIZE;
+    return kind === 'm' ? PLACE_SIZE : 0;
+  }
 
-  function call(name, kinds, given) {
-    const parts = [...kinds].map((kind, number) => [kind, given[number], 0]);
-    let at = scratchOf(parts.reduce((sum, [kind, it]) => sum + SIZE_OF[kind](it), 0));
-    if (!at) return STATUS.MEMORY;
-    const words = [];
-    for (const part of parts) {
-      const [kind, it] = part;
-      part[2] = at;
-      if (kind === 'h') words.push(it === null ? 0 : it.address);
-      else if (kind === 'n') words.push(it);
-      else if (kind === 'u') words.push(BigInt(it));
-      else words.push(at);
-      if (kind === 'b' || kind === 'w') words.push(BigInt(it.length));
-      if (kind === 'b' || kind === 'w') new Uint8Array(memory.buffer, at, it.length).set(it);
-      if (kind === 'f') writeAnswer(at, it);
-      if (kind === 'm') new DataView(memory.buffer).setBigUint64(at, 0n, true);
-      at += SIZE_OF[kind](it);
+  /** Puts what is given into the module's memory from an address on, and returns what the call is given for it. */
+  function put(kind, it, at) {
+    if (kind === 'h') return it === null ? 0 : it.address;
+    if (kind === 'u') return BigInt(it);
+    if (kind === 'n') return it;
+    if (kind === 'b' || kind === 'w') new Uint8Array(memory.buffer, at, it.length).set(it);
+    else if (kind === 'f') writeAnswer(at, it);
+    else if (kind === 'm') new DataView(memory.buffer).setBigUint64(at, 0n, true);
+    return at;
+  }
+
+  function call(called, kinds, given) {
+    let size = 0, made = null;
+    for (let number = 0; number < kinds.length; number++) size += sizeOf(kinds[number], given[number]);
+    const start = scratchOf(size), words = [];
+    if (!start) return STATUS.MEMORY;
+    for (let number = 0, at = start; number < kinds.length; number++) {
+      words.push(put(kinds[number], given[number], at));
+      if (kinds[number] === 'b' || kinds[number] === 'w') words.push(BigInt(given[number].length));
+      at += sizeOf(kinds[number], given[number]);
     }
-    const status = library[`odfilter_${name}`](...words);
-    const view = new DataView(memory.buffer);
-    let made = null;
-    for (const [kind, it, place] of parts) {
-      if (kind === 'a' && status !== STATUS.NULL) readAnswer(place, it);
-      if (kind === 'w') it.set(new Uint8Array(memory.buffer, place, it.length));
-      if (kind === 'm' && status === STATUS.OK) made = { address: Number(view.getBigUint64(place, true)) };
+    const status = called(...words);
+    for (let number = 0, at = start; number < kinds.length; number++) {
+      const kind = kinds[number], it = given[number];
+      if (kind === 'a' && status !== STATUS.NULL) readAnswer(at, it);
+      if (kind === 'w') it.set(new Uint8Array(memory.buffer, at, it.length));
+      if (kind === 'm' && status === STATUS.OK) made = { address: addressAt(at) };
+      at += sizeOf(kind, it);
     }
     return made ?? status;
   }
 
+  const addressAt = (at) => Number(new DataView(memory.buffer).getBigUint64(at, true));
   const calls = { newAnswer, STATUS, VERDICT: numbers.VERDICT, SCHEMA_NAMES: numbers.SCHEMA_NAMES };
   for (const [called, kinds] of Object.entries(numbers.CALLS)) {
     const name = called.replace(/_(.)/g, (_, letter) => letter.toUpperCase());
     // a variable of a handle is no parameter: the handle is returned
-    const shown = [...kinds].filter((kind) => kind !== 'm');
+    const variable = kinds.indexOf('m'), count = kinds.length - (variable < 0 ? 0 : 1);
     calls[name] = (...given) => {
-      const words = [...given];
-      if (words.length !== shown.length) throw new TypeError(`${name} is given ${shown.length} arguments`);
-      return call(called, kinds, [...kinds].map((kind) => (kind === 'm' ? null : words.shift())));
+      if (given.length !== count) throw new TypeError(`${name} is given ${count} arguments`);
+      if (variable >= 0) given.splice(variable, 0, null);
+      return call(library[`odfilter_${called}`], kinds, given);
     };
   }
   calls.free = (handle) => {
