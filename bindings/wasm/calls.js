@@ -33,11 +33,11 @@ function odfilterCalls(instance) {
     return scratch;
   }
 
-  function readAnswer(at, answer) {
-    const view = new DataView(memory.buffer, at, ANSWER_SIZE);
+  function readAnswer(start, answer) {
+    const view = new DataView(memory.buffer, start, ANSWER_SIZE);
     for (let field = 0; field < NAMES.length; field++) {
-      const offset = OFFSETS[field];
-      answer[NAMES[field]] = SIZES[field] === 4 ? view.getUint32(offset, true) : Number(view.getBigUint64(offset, true));
+      const at = OFFSETS[field], isShort = SIZES[field] === 4;
+      answer[NAMES[field]] = isShort ? view.getUint32(at, true) : Number(view.getBigUint64(at, true));
     }
   }
 
