@@ -13,6 +13,8 @@ import zipfile
 from languages.common import TOP, has_done, prints_page, run
 
 __all__ = ["PACKAGES", "checks_of_package"]
+# before a command: no variable names another library than the one in the package
+UNNAMED = ["env", "-u", "ODFILTER_LIBRARY"]
 JNA = "/usr/share/java/jna.jar"
 MODULE = "example.org/odfilter"
 CRATE = '[package]\nname = "program"\nversion = "0.1.0"\nedition = "2021"\n\n[dependencies]\nodfilter = "0.1.0"\n\n'
@@ -51,9 +53,8 @@ def stands_alone(room, page):
 def of_python(room, _, wheel):
     with zipfile.ZipFile(wheel) as file:
         file.extractall(f"{room}/site")
-    words = ["python3", "-B", "-c", "import odfilter; print(odfilter.Library().version)"]
-    how = {"PYTHONPATH": f"{room}/site", "ODFILTER_LIBRARY": ""}
-    status, out, err = run(["env", "-u", "ODFILTER_LIBRARY", *words], more=how)
+    words = [*UNNAMED, "python3", "-B", "-c", "import odfilter; print(odfilter.Library().version)"]
+    status, out, err = run(words, more={"PYTHONPATH": f"{room}/site"})
     yield "the wheel's module finds its library", (status, bool(out), err) == (0, True, ""), (status, out, err)
 
 
@@ -112,7 +113,7 @@ def of_java(room, kit, jar):
     with zipfile.ZipFile(jar) as file:
         file.extract("native/linux-x86-64/libodfilter.so", room)
     yield from has_library(room, f"{room}/native/linux-x86-64/libodfilter.so", kit, "libodfilter.so")
-    words = ["env", "-u", "ODFILTER_LIBRARY", "java", "-cp", f"{jar}:{JNA}", "Page.java"]
+    words = [*UNNAMED, "java", "-cp", f"{jar}:{JNA}", "Page.java"]
     yield from prints_page(room, page_of("java"), "java", f"{room}/Page.java", words)
 
 

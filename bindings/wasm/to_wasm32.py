@@ -116,10 +116,11 @@ def translated(text):
 
 
 def unknown(text):
-    """The lines that still have an address in memory as a pointer."""
+    """The lines that still have an address in memory as a pointer, or step over such ones."""
     kind, how = r"(?:ptr|[\[{<].*\bptr\b.*[\]}>])", "(?:volatile |atomic )?"
     exchanged = r"%\S+ = (?:atomicrmw|cmpxchg) .*\bptr .*, ptr "
-    left = re.compile(rf"^ +(?:store {how}{kind} |%\S+ = load {how}{kind},|{exchanged})", re.MULTILINE)
+    stepped = r"%\S+ = getelementptr (?:[a-z]+ )*?(?:ptr\b|[\[{<][^\]}>]*\bptr\b)"
+    left = re.compile(rf"^ +(?:store {how}{kind} |%\S+ = load {how}{kind},|{exchanged}|{stepped})", re.MULTILINE)
     return [text[it.start() : text.find("\n", it.start())] for it in left.finditer(text)]
 
 
