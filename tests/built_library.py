@@ -26,10 +26,13 @@ def has_module(room):
 
 
 def has_arm64(room):
-    """The same of the folder with the library for ARM64: what ODFILTER_ARM64 names, or one built here."""
+    """The same of the folder with the library for ARM64: what ODFILTER_ARM64 names, or one built here, of the module
+    of the proved build for x86-64 without a proof more."""
     if "ODFILTER_ARM64" not in os.environ:
+        subprocess.run([f"{TOP}/bindings/c/build", f"{room}/kit"], check=True)
         words = ["--target", "aarch64-unknown-linux-gnu", f"{room}/arm64"]
-        subprocess.run([f"{TOP}/bindings/c/build", *words], check=True)
+        env = {**os.environ, "MODULE": f"{TOP}/crates/odfilter_c/out/libodfilter_c.bc"}
+        subprocess.run([f"{TOP}/bindings/c/build", *words], check=True, env=env)
         os.environ["ODFILTER_ARM64"] = f"{room}/arm64"
     os.environ["ODFILTER_ARM64"] = os.path.realpath(os.environ["ODFILTER_ARM64"])
     return os.environ["ODFILTER_ARM64"]
