@@ -13,7 +13,6 @@ from .sources import constants_in, text_of
 FOLDERS = ("must-fail", "planted-bugs")
 # the crates that have all of theirs there
 TRIED_BY_RT = {"handle_calls", "line_filter", "odata_eval", "odata_filter", "odata_ranges", "row_judges", "sql_draft"}
-TRIED_BY_RT |= {"sql_tables"}
 
 
 class FaultyEdit(Exception):
