@@ -13,6 +13,8 @@ TOMCAT = "/usr/share/java/tomcat10-embed-core.jar:/usr/share/java/jakarta-annota
 COMPILER = ["javac", "--release", "11", "-Xlint:all", "-Werror"]
 # a heap of one size, so that what grows is not the heap
 JAVA_WORDS = ["-Xms64m", "-Xmx64m", "-XX:+AlwaysPreTouch"]
+# of a Java that runs for seconds: one compiler, which takes less of the processors, and one thread that collects
+QUICK = ["-XX:TieredStopAtLevel=1", "-XX:+UseSerialGC"]
 
 
 def newer_java():
@@ -66,8 +68,9 @@ def is_built(room):
 
 def answers(room):
     yield compiled(room, "java-suite", [f"{CLIENTS}/Suite.java"])
-    for name, words in javas(room):
-        yield from answers_suite(room, f"Suite.java over {name}", [*with_classes(words, f"{room}/java-suite"), "Suite"])
+    for name, [java, *words] in javas(room):
+        words = [java, *QUICK, *with_classes(words, f"{room}/java-suite"), "Suite"]
+        yield from answers_suite(room, f"Suite.java over {name}", words)
 
 
 def page(room):
