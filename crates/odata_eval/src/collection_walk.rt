@@ -18,6 +18,7 @@ use odata_syntax::ComparisonOperator;
 
 /// What `has` evaluates to.
 #[cycle(evaluate)]
+#[inline(never)]
 pub(crate) fn flags_at<'e, B: Counting>(
     context: &EvalContext<'e, '_, '_>,
     place: usize,
@@ -37,6 +38,7 @@ pub(crate) fn flags_at<'e, B: Counting>(
 
 /// What `in` before a path evaluates to. The members are counted that were compared.
 #[cycle(evaluate)]
+#[inline(never)]
 pub(crate) fn among_at<'e, B: Counting>(
     context: &EvalContext<'e, '_, '_>,
     place: usize,

@@ -179,6 +179,7 @@ fn compared_at<'e, B: Counting>(
 
 /// What a call evaluates to, whose first argument has been answered.
 #[cycle(evaluate)]
+#[inline(never)]
 fn called_at<'e, B: Counting>(
     context: &EvalContext<'e, '_, '_>,
     place: usize,

@@ -48,6 +48,7 @@ struct Body {
 
 /// What a lambda operator evaluates to, whose base has been answered. Over null it is null.
 #[cycle(evaluate)]
+#[inline(never)]
 pub(crate) fn lambda_at<'e, B: Counting>(
     context: &EvalContext<'e, '_, '_>,
     place: usize,
