@@ -162,19 +162,13 @@ fn push_by_itself(
     )
 }
 
-/// The word of a row that has no verdict: the fault of the evaluation, unless the row is at fault.
-fn word_of_fault(why: &BadRow) -> &'static str {
-    match why {
-        BadRow::NoValue(fault) => spelled(Err(*fault)),
-        _ => if why.is_memory() { "memory" } else { "a fault" },
-    }
-}
-
-/// What is reported about a row by itself, in a word.
+/// What is reported about a row by itself, in a word; of one without a verdict the fault of the evaluation, unless the
+/// row is at fault.
 fn word_of(said: &Result<Verdict, BadRow>) -> &'static str {
     match said {
         Ok(verdict) => spelled(Ok(*verdict)),
-        Err(why) => word_of_fault(why),
+        Err(BadRow::NoValue(fault)) => spelled(Err(*fault)),
+        Err(why) => if why.is_memory() { "memory" } else { "a fault" },
     }
 }
 
