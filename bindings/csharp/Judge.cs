@@ -95,8 +95,8 @@ namespace Odfilter
         }
 
         /// <summary>Judges rows, one JSON object a line, and returns those on which the filter is true. Blank lines are
-        /// passed over, and the judge's bound does not hold. The first line at fault is a RowException, which has what
-        /// is kept before it.</summary>
+        /// passed over. The first line at fault is a RowException, which has what is kept before it; one that costs
+        /// more than the bound has the code TooCostly.</summary>
         public unsafe KeptLines FilterLines(byte[] rows)
         {
             lock (oneCall)

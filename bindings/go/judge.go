@@ -53,8 +53,8 @@ func At(now string) JudgeOption {
 // AtTime sets the moment that now() stands for.
 func AtTime(now time.Time) JudgeOption { return At(now.Format(time.RFC3339Nano)) }
 
-// Within bounds what the filter may cost on each row of Verdict: how many times it judges the body of an any() or
-// all(), and how many items of lists after `in` it compares within one.
+// Within bounds what the filter may cost on each row: how many times it judges the body of an any() or all(), and how
+// many items of lists and members of collections it compares after `in` within one.
 func Within(bound uint64) JudgeOption {
 	return func(judge handle) error {
 		setBound(judge, bound)
@@ -106,8 +106,8 @@ type Kept struct {
 }
 
 // FilterLines judges rows, one JSON object a line, and returns those on which the filter is true. Blank lines are
-// passed over, and the judge's bound does not hold. The first line at fault is a *RowError, which has what is kept
-// before it.
+// passed over. The first line at fault is a *RowError, which has what is kept before it; one that costs more than the
+// bound is ErrTooCostly.
 func (j *Judge) FilterLines(rows []byte) (Kept, error) {
 	by, err := j.use()
 	if err != nil {
@@ -141,7 +141,7 @@ func rowError(judge handle, s status, a *answer, kept []byte) error {
 
 // Keep returns a reader of those lines of rows on which the filter is true. What has come is judged before more is
 // waited for. The first line at fault ends it with a *RowError, after the lines that are kept before it; Line counts
-// the lines of rows. The judge's bound does not hold.
+// the lines of rows. A line that costs more than the bound ends it with ErrTooCostly.
 func (j *Judge) Keep(rows io.Reader) io.Reader {
 	return &lineReader{judge: j, rows: rows, block: make([]byte, blockSize)}
 }

@@ -51,8 +51,8 @@ impl Judge {
         }
     }
 
-    /// Bounds what the filter may cost on each row of `verdict`: how many times it judges the body of an any() or
-    /// all(), and how many items of lists after `in` it compares within one.
+    /// Bounds what the filter may cost on each row: how many times it judges the body of an any() or all(), and how
+    /// many items of lists and members of collections it compares after `in` within one.
     pub fn within(mut self, bound: u64) -> Judge {
         // SAFETY: the handle is a judge, of which this call has no other status than OK.
         unsafe { c::odfilter_set_bound(self.handle.at_mut(), bound) };
@@ -73,8 +73,9 @@ impl Judge {
         }
     }
 
-    /// Judges rows, one JSON object a line, and returns those on which the filter is true. Blank lines are passed over,
-    /// and the bound does not hold. The first line at fault is an `Error::Row`, which has what is kept before it.
+    /// Judges rows, one JSON object a line, and returns those on which the filter is true. Blank lines are passed over.
+    /// The first line at fault is an `Error::Row`, which has what is kept before it; one that costs more than the bound
+    /// is `Error::TooCostly`.
     pub fn filter_lines(&mut self, rows: &[u8]) -> Result<Kept> {
         let mut text = vec![0; rows.len() + 1];
         let mut answer = c::odfilter_answer::default();

@@ -29,8 +29,8 @@ public final class Judge implements AutoCloseable {
     }
 
     /**
-     * Bounds what the filter may cost on each row of verdict: how many times it judges the body of an any() or all(),
-     * and how many items of lists after `in` it compares within one. A negative bound is refused.
+     * Bounds what the filter may cost on each row: how many times it judges the body of an any() or all(), and how
+     * many items of lists and members of collections it compares after `in` within one. A negative bound is refused.
      */
     public synchronized Judge within(long bound) {
         if (bound < 0) {
@@ -85,8 +85,9 @@ public final class Judge implements AutoCloseable {
     }
 
     /**
-     * Judges rows, one JSON object a line, and returns those on which the filter is true. Blank lines are passed over,
-     * and the judge's bound does not hold. The first line at fault is a RowException, which has what is kept before it.
+     * Judges rows, one JSON object a line, and returns those on which the filter is true. Blank lines are passed over.
+     * The first line at fault is a RowException, which has what is kept before it; one that costs more than the bound
+     * has the code TooCostly.
      */
     public synchronized Kept filterLines(byte[] rows) {
         byte[] kept = new byte[rows.length + 1];
