@@ -251,7 +251,8 @@ class Filter(_Held):
         """A judge by this filter; `now` is the moment that now() stands for. Raises NotAMoment.
 
         `bound` is how much the filter may cost on a row: how many times it judges the body of an any() or all(), and
-        how many items of lists and members of collections it compares after `in` within one.
+        how many items of lists and members of collections it compares after `in` within one; also, anywhere, the whole
+        KiB of each text that a comparison or a function takes, and 16 times those of each that a function makes.
         """
         return Judge(self, now, bound)
 

@@ -1,13 +1,14 @@
-//! How many bodies of lambda operators, and values compared after `in` within them, a walk may still ask for.
-ghost use Rattle.std.specs.Prelude.{◌≡◌, ◌≢◌};
+//! What a walk may still ask for: bodies of lambda operators, values compared after `in` within them, and KiB of texts.
+ghost use Rattle.std.specs.Prelude.{◌≡◌, ◌≢◌, IsFalse};
+ghost use Rattle.odata_filter_operations.specs.Collections.{AreCompared, AreComparedIn};
 ghost use Rattle.odata_meaning.specs.Costs.{item_cost};
 ghost use Rattle.odata_eval.specs.private.ContextModel.{environment_of};
-ghost use Rattle.odata_eval.specs.private.Spending.{IsTaken, compared_cost, datum_as_stop};
+ghost use Rattle.odata_eval.specs.private.Spending.{IsTaken, datum_as_stop, members_due, number_as_stop, path_due};
 
 use super::eval_context::EvalContext;
 use super::stop::EvalStop;
-use edm_values::Datum;
-use odata_filter_operations::EvalFault;
+use edm_values::{Datum, Value};
+use odata_filter_operations::{EvalFault, comparison_cost, datum_of};
 
 /// What is left of a bound, or that there is none.
 #[derive(Clone, Copy)]
@@ -23,9 +24,9 @@ pub(crate) trait Counting: Copy {
     // what is left of its bound
     ghost left: { Self → Budget };
 
-    /// One that has no bound.
-    fn without_bound() -> Self
-        ensures { left result ≡ Budget.Unbounded };
+    /// Whether it may have a bound.
+    fn is_counting() -> bool
+        ensures { IsFalse result → (s : Self) → left s ≡ Budget.Unbounded };
 
     /// Takes so many, if so many are left.
     fn take(&mut self, count: usize) -> bool
@@ -42,8 +43,8 @@ impl Counting for Unbounded {
     ghost left = { λ s. Budget.Unbounded };
 
     #[inline(always)]
-    fn without_bound() -> Unbounded {
-        Unbounded
+    fn is_counting() -> bool {
+        false
     }
 
     #[inline(always)]
@@ -55,8 +56,8 @@ impl Counting for Unbounded {
 impl Counting for Budget {
     ghost left = { λ s. s };
 
-    fn without_bound() -> Budget {
-        Budget::Unbounded
+    fn is_counting() -> bool {
+        true
     }
 
     fn take(&mut self, count: usize) -> bool {
@@ -74,7 +75,7 @@ impl Counting for Budget {
     }
 }
 
-/// Takes one for an item of a list within a body, if one is left.
+/// Takes one for a value that is compared after `in` within a body, if one is left.
 pub(crate) fn take_item<B: Counting>(context: &EvalContext<'_, '_, '_>, budget: &mut B) -> bool
     ensures { IsTaken result (B.left budget.old) (B.left budget.new) (item_cost (environment_of context.now)) }
 {
@@ -85,20 +86,49 @@ pub(crate) fn take_item<B: Counting>(context: &EvalContext<'_, '_, '_>, budget: 
     }
 }
 
-/// Takes one for each of so many members that were compared within a body, if so many are left.
+/// Takes what comparing a value with so many members of a collection costs, if that is left: within a body one for each,
+/// and what the texts cost.
 pub(crate) fn take_compared<B: Counting>(
     context: &EvalContext<'_, '_, '_>,
+    left: &Datum<'_>,
+    path: &Datum<'_>,
     count: usize,
     budget: &mut B,
 ) -> bool
+    requires { AreComparedIn left.now path.now count }
     ensures { IsTaken result (B.left budget.old) (B.left budget.new)
-        (compared_cost (environment_of context.now) count) }
+        (path_due (item_cost (environment_of context.now)) left.now path.now count) }
 {
-    if context.is_within_body() {
-        budget.take(count)
-    } else {
-        true
+    if !B::is_counting() {
+        return true;
     }
+    match path {
+        Datum::List(members) => take_members(context, left, members, count, budget),
+        _ => true,
+    }
+}
+
+/// Takes what comparing a value with the first so many members costs, if that is left.
+fn take_members<B: Counting>(
+    context: &EvalContext<'_, '_, '_>,
+    left: &Datum<'_>,
+    members: &[Value],
+    count: usize,
+    budget: &mut B,
+) -> bool
+    requires { AreCompared left.now members.now count }
+    ensures { IsTaken result (B.left budget.old) (B.left budget.new)
+        (members_due (item_cost (environment_of context.now)) left.now members.now count) }
+{
+    for at in 0..count {
+        if !take_item(context, budget) {
+            return false;
+        }
+        if !budget.take(comparison_cost(left, &datum_of(&members[at]))) {
+            return false;
+        }
+    }
+    true
 }
 
 /// The fault that stopped a walk without a bound.
@@ -110,6 +140,16 @@ pub(crate) fn fault_of(stop: EvalStop) -> EvalFault
         EvalStop::Fault(fault) => fault,
         // No walk without a bound stops for its cost.
         EvalStop::TooCostly => unreachable!(),
+    }
+}
+
+/// A number for which nothing was counted, its fault as a stop.
+pub(crate) fn number_stop(answer: Result<Option<i64>, EvalFault>) -> Result<Option<i64>, EvalStop>
+    ensures { result ≡ number_as_stop answer }
+{
+    match answer {
+        Ok(number) => Ok(number),
+        Err(fault) => Err(EvalStop::Fault(fault)),
     }
 }
 

@@ -6,12 +6,12 @@ ghost use Rattle.odata_eval.specs.private.Spending.{CountedDatum, SpendsRest, da
 ghost use Rattle.odata_eval.specs.private.WalkAnswer.{AnswersDatum};
 
 use super::budget::{Counting, take_compared, take_item};
-use super::datum_walk::{likely_stored_at, operand_at};
+use super::datum_walk::likely_stored_at;
 use super::eval_context::EvalContext;
 use super::stop::EvalStop;
 use super::walk_operand::{right_of, stop_of};
 use edm_values::Datum;
-use odata_filter_operations::{EvalFault, among, datum_of_truth, flags_of};
+use odata_filter_operations::{among, comparison_cost, datum_of_truth, flags_of};
 use odata_functions::{compare, comparisons_are_decided};
 use odata_signatures::trees_have_one_type;
 use odata_syntax::ComparisonOperator;
@@ -23,16 +23,18 @@ pub(crate) fn flags_at<'e, B: Counting>(
     context: &EvalContext<'e, '_, '_>,
     place: usize,
     left: &Datum<'_>,
-) -> Result<Datum<'e>, EvalFault>
+    budget: &mut B,
+) -> Result<Datum<'e>, EvalStop>
     requires stands { PartStands context.now place }
     requires here { HasKind context.now.list place Kind.Has }
     requires left { AnswersDatum context.now (place + 1) (Ok left.now) }
-    ensures { AnswersDatum context.now place result }
+    ensures answers { CountedDatum context.now place result }
+    ensures spent { SpendsRest context.now place (B.left budget.old) None (B.left budget.new) (datum_stop result) }
 {
     context.ends_once();
-    match operand_at::<B>(context, right_of(context, place)) {
+    match likely_stored_at(context, right_of(context, place), budget) {
         Ok(right) => Ok(flags_of(left, &right)),
-        Err(fault) => Err(fault),
+        Err(stop) => Err(stop),
     }
 }
 
@@ -52,15 +54,15 @@ pub(crate) fn among_at<'e, B: Counting>(
     ensures spent { SpendsRest context.now place (B.left budget.old) None (B.left budget.new) (datum_stop result) }
 {
     context.ends_once();
-    match operand_at::<B>(context, right_of(context, place)) {
+    match likely_stored_at(context, right_of(context, place), budget) {
         Ok(path) => {
             let found = among(left, &path);
-            if !take_compared(context, found.compared, budget) {
+            if !take_compared(context, left, &path, found.compared, budget) {
                 return Err(EvalStop::TooCostly);
             }
             Ok(datum_of_truth(found.truth))
         }
-        Err(fault) => Err(EvalStop::Fault(fault)),
+        Err(stop) => Err(stop),
     }
 }
 
@@ -89,6 +91,9 @@ pub(crate) fn listed_at<'e, B: Counting>(
         }
         match likely_stored_at(context, at, budget) {
             Ok(item) => {
+                if !budget.take(comparison_cost(left, &item)) {
+                    return Err(EvalStop::TooCostly);
+                }
                 if compare(ComparisonOperator::Eq, left, &item) {
                     return Ok(Datum::Bool(true));
                 }

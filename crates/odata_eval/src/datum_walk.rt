@@ -4,7 +4,7 @@ ghost use Rattle.odata_eval.specs.private.Place.{HasCall, HasOperator, IsClassAt
 ghost use Rattle.odata_eval.specs.private.Spending.{CountedDatum, SpendsAt, SpendsRest, datum_stop};
 ghost use Rattle.odata_eval.specs.private.WalkAnswer.{AnswersDatum};
 
-use super::budget::{Counting, as_stop, fault_of};
+use super::budget::{Counting, as_stop};
 use super::collection_walk::{among_at, flags_at, listed_at};
 use super::eval_context::EvalContext;
 use super::lambda_walk::lambda_at;
@@ -17,8 +17,8 @@ use super::walk_operand::{
 use edm_values::Datum;
 use odata_checked_filter::NodeKind;
 use odata_filter_operations::{
-    EvalFault, any_item_of, called_on_one, called_on_three, called_on_two, count_of, datum_of,
-    datum_of_number, datum_of_truth, step,
+    any_item_of, called_on_one, called_on_three, called_on_two, comparison_cost, cost_of_one,
+    cost_of_three, cost_of_two, count_of, datum_of, datum_of_number, datum_of_truth, step,
 };
 use odata_functions::{compare, comparisons_are_decided, operands_lie_within_promotion};
 use odata_signatures::{Function, calls_have_one_type, trees_have_one_type};
@@ -41,9 +41,9 @@ pub(crate) fn counted_at<'e, B: Counting>(
             Ok(truth) => Ok(datum_of_truth(truth)),
             Err(stop) => Err(stop),
         },
-        WalkOperand::Numeric => match number_at::<B>(context, place) {
+        WalkOperand::Numeric => match number_at(context, place, budget) {
             Ok(number) => Ok(datum_of_number(number)),
-            Err(fault) => Err(EvalStop::Fault(fault)),
+            Err(stop) => Err(stop),
         },
         WalkOperand::Eager => eager_at(context, place, budget),
     }
@@ -65,28 +65,6 @@ pub(crate) fn likely_stored_at<'e, B: Counting>(
         return Ok(datum_of(value));
     }
     counted_at(context, place, budget)
-}
-
-/// The same, where nothing is counted: an operand that holds no lambda operator, since it is none of truth values.
-#[tactic(auto, using(crate::proofs::spending::Stops::unbounded_truth, crate::proofs::spending::Stops::unbounded_datum))]
-#[cycle(evaluate)]
-#[inline(always)]
-pub(crate) fn operand_at<'e, B: Counting>(
-    context: &EvalContext<'e, '_, '_>,
-    place: usize,
-) -> Result<Datum<'e>, EvalFault>
-    requires stands { OperandStands context.now place }
-    ensures { AnswersDatum context.now place result }
-{
-    if let WalkOperand::Leaf(value) = walk_operand_at(context, place) {
-        return Ok(datum_of(value));
-    }
-    context.costs_once();
-    let mut unbounded = B::without_bound();
-    match counted_at(context, place, &mut unbounded) {
-        Ok(value) => Ok(value),
-        Err(stop) => Err(fault_of(stop)),
-    }
 }
 
 /// What a node evaluates to that takes the values of all its operands.
@@ -134,10 +112,10 @@ fn made_at<'e, B: Counting>(
     };
     match context.node(place).kind {
         NodeKind::Member { slot } => Ok(step(first, slot)),
-        NodeKind::Call { function } => as_stop(called_at::<B>(context, place, function, first)),
+        NodeKind::Call { function } => called_at(context, place, function, first, budget),
         NodeKind::Count => as_stop(count_of(first)),
         NodeKind::AnyItem => Ok(any_item_of(first)),
-        NodeKind::Has => as_stop(flags_at::<B>(context, place, &first)),
+        NodeKind::Has => flags_at(context, place, &first, budget),
         NodeKind::InPath => among_at(context, place, &first, budget),
         NodeKind::InList => listed_at(context, place, &first, budget),
         NodeKind::Lambda { quantifier } => lambda_at(context, place, quantifier, first, budget),
@@ -168,11 +146,13 @@ fn compared_at<'e, B: Counting>(
     operands_lie_within_promotion();
     comparisons_are_decided();
     let right_place = right_of(context, place);
-    if let WalkOperand::Leaf(value) = walk_operand_at(context, right_place) {
-        return Ok(Datum::Bool(compare(comparison, &left, &datum_of(value))));
-    }
-    match counted_at(context, right_place, budget) {
-        Ok(right) => Ok(Datum::Bool(compare(comparison, &left, &right))),
+    match likely_stored_at(context, right_place, budget) {
+        Ok(right) => {
+            if !budget.take(comparison_cost(&left, &right)) {
+                return Err(EvalStop::TooCostly);
+            }
+            Ok(Datum::Bool(compare(comparison, &left, &right)))
+        }
         Err(behind) => Err(behind),
     }
 }
@@ -185,11 +165,13 @@ fn called_at<'e, B: Counting>(
     place: usize,
     function: Function,
     first: Datum<'e>,
-) -> Result<Datum<'e>, EvalFault>
+    budget: &mut B,
+) -> Result<Datum<'e>, EvalStop>
     requires stands { PartStands context.now place }
     requires here { HasCall context.now.list place function }
     requires first { AnswersDatum context.now (place + 1) (Ok first) }
-    ensures { AnswersDatum context.now place result }
+    ensures answers { CountedDatum context.now place result }
+    ensures spent { SpendsRest context.now place (B.left budget.old) None (B.left budget.new) (datum_stop result) }
 {
     context.ends_once();
     calls_have_one_type();
@@ -197,18 +179,29 @@ fn called_at<'e, B: Counting>(
     let own_stop = stop_of(context, place);
     let second_place = stop_of(context, place + 1);
     if second_place == own_stop {
-        return called_on_one(context.alloc(), function, first);
+        if !budget.take(cost_of_one(function, &first)) {
+            return Err(EvalStop::TooCostly);
+        }
+        return as_stop(called_on_one(context.alloc(), function, first));
     }
-    let second = match operand_at::<B>(context, second_place) {
+    let second = match likely_stored_at(context, second_place, budget) {
         Ok(second) => second,
         Err(further) => return Err(further),
     };
     let third_place = stop_of(context, second_place);
     if third_place == own_stop {
-        return called_on_two(context.alloc(), function, first, second);
+        if !budget.take(cost_of_two(function, &first, &second)) {
+            return Err(EvalStop::TooCostly);
+        }
+        return as_stop(called_on_two(context.alloc(), function, first, second));
     }
-    match operand_at::<B>(context, third_place) {
-        Ok(third) => called_on_three(function, first, second, third),
-        Err(fault) => Err(fault),
+    match likely_stored_at(context, third_place, budget) {
+        Ok(third) => {
+            if !budget.take(cost_of_three(&first, &second, &third)) {
+                return Err(EvalStop::TooCostly);
+            }
+            as_stop(called_on_three(function, first, second, third))
+        }
+        Err(stop) => Err(stop),
     }
 }

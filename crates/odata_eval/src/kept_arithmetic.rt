@@ -1,9 +1,7 @@
 //! Comparisons of arithmetic over stored numbers: what most filters have of it, without a call and without a fault.
-ghost use Rattle.std.specs.Prelude.{◌+◌, IfSome, None, Ok, Some};
-ghost use Rattle.odata_eval.specs.declared.budget.Budget.{Budget};
+ghost use Rattle.std.specs.Prelude.{◌+◌, IfSome, Ok, Some};
 ghost use Rattle.odata_eval.specs.declared.walk_operand.WalkClass.{WalkClass as Class};
 ghost use Rattle.odata_eval.specs.private.Place.{HasOperator, IsClassAt, PartStands};
-ghost use Rattle.odata_eval.specs.private.Spending.{SpendsAt};
 ghost use Rattle.odata_eval.specs.private.WalkAnswer.{AnswersNumber, AnswersTruth};
 
 use super::eval_context::EvalContext;
@@ -25,8 +23,7 @@ pub(crate) fn arithmetic_compared_at(
     requires stands { PartStands context.now place }
     requires here { HasOperator context.now.list place (BinaryOperator.Comparison comparison) }
     requires numeric { IsClassAt context.now.list Class.Numeric (place + 1) }
-    ensures answers { IfSome result (λ truth. AnswersTruth context.now place (Ok (Some truth))) }
-    ensures spent { (budget : Budget) → IfSome result (λ truth. SpendsAt context.now place budget budget None) }
+    ensures { IfSome result (λ truth. AnswersTruth context.now place (Ok (Some truth))) }
 {
     let right_place = right_of(context, place);
     let Some(right) = found_number_at(context, right_place) else {

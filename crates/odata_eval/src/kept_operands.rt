@@ -1,13 +1,11 @@
 //! Operands of which no value is made: a step from a value that is kept, the length of a kept text, and a kept text of
 //! whose lower case only the start is asked.
-ghost use Rattle.std.specs.Prelude.{◌≡◌, ◌+◌, ℕ, IfSome, List, None, Ok, Some};
+ghost use Rattle.std.specs.Prelude.{◌≡◌, ◌+◌, ℕ, IfSome, List, Ok, Some};
 ghost use Rattle.odata_checked_filter.specs.declared.checked_node.NodeKind.{NodeKind as Kind};
 ghost use Rattle.odata_eval.specs.private.KeptOperands.{AnswersCall, AnswersLast, AnswersLowered, AnswersText, IsPathAt};
 ghost use Rattle.odata_eval.specs.private.Place.{HasCall, HasKind, HasOperator, IsClassAt, OperandStands, PartStands};
-ghost use Rattle.odata_eval.specs.private.Spending.{SpendsAt};
 ghost use Rattle.odata_eval.specs.private.WalkAnswer.{AnswersKept, AnswersNumber, AnswersTruth};
 ghost use Rattle.odata_eval.specs.declared.walk_operand.WalkClass.{WalkClass as Class};
-ghost use Rattle.odata_eval.specs.declared.budget.Budget.{Budget};
 
 use super::eval_context::EvalContext;
 use super::walk_operand::{right_of, stop_of};
@@ -238,8 +236,7 @@ pub(crate) fn kept_compared_at(
 ) -> Option<bool>
     requires stands { PartStands context.now place }
     requires here { HasOperator context.now.list place (BinaryOperator.Comparison comparison) }
-    ensures answers { IfSome result (λ truth. AnswersTruth context.now place (Ok (Some truth))) }
-    ensures spent { (budget : Budget) → IfSome result (λ truth. SpendsAt context.now place budget budget None) }
+    ensures { IfSome result (λ truth. AnswersTruth context.now place (Ok (Some truth))) }
 {
     let _nodes = context.nodes();
     match context.node(place + 1).kind {
@@ -263,8 +260,7 @@ fn step_compared_at(
     requires stands { PartStands context.now place }
     requires here { HasOperator context.now.list place (BinaryOperator.Comparison comparison) }
     requires step { HasKind context.now.list (place + 1) (Kind.Member slot) }
-    ensures answers { IfSome result (λ truth. AnswersTruth context.now place (Ok (Some truth))) }
-    ensures spent { (budget : Budget) → IfSome result (λ truth. SpendsAt context.now place budget budget None) }
+    ensures { IfSome result (λ truth. AnswersTruth context.now place (Ok (Some truth))) }
 {
     context.ends_once();
     comparisons_are_decided();
@@ -289,8 +285,7 @@ fn length_compared_at(
     requires stands { PartStands context.now place }
     requires here { HasOperator context.now.list place (BinaryOperator.Comparison comparison) }
     requires call { HasCall context.now.list (place + 1) function }
-    ensures answers { IfSome result (λ truth. AnswersTruth context.now place (Ok (Some truth))) }
-    ensures spent { (budget : Budget) → IfSome result (λ truth. SpendsAt context.now place budget budget None) }
+    ensures { IfSome result (λ truth. AnswersTruth context.now place (Ok (Some truth))) }
 {
     let right_place = right_of(context, place);
     let Some(left) = length_at(context, place + 1, function) else {

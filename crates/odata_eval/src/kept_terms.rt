@@ -1,9 +1,7 @@
 //! Plain terms: a Boolean property, and a comparison of a property with a literal.
-ghost use Rattle.std.specs.Prelude.{◌+◌, IfSome, None, Ok, Some};
-ghost use Rattle.odata_eval.specs.declared.budget.Budget.{Budget};
+ghost use Rattle.std.specs.Prelude.{◌+◌, IfSome, Ok, Some};
 ghost use Rattle.odata_checked_filter.specs.declared.checked_node.NodeKind.{NodeKind as Kind};
 ghost use Rattle.odata_eval.specs.private.Place.{HasKind, HasOperator, IsRightOf, OperandStands, PartStands, TruthStands};
-ghost use Rattle.odata_eval.specs.private.Spending.{SpendsAt};
 ghost use Rattle.odata_eval.specs.private.WalkAnswer.{AnswersTruth};
 
 use super::eval_context::EvalContext;
@@ -16,8 +14,7 @@ use odata_syntax::{BinaryOperator, ComparisonOperator};
 #[inline(always)]
 pub(crate) fn kept_truth_at(context: &EvalContext<'_, '_, '_>, place: usize) -> Option<bool>
     requires stands { TruthStands context.now place }
-    ensures answers { IfSome result (λ truth. AnswersTruth context.now place (Ok (Some truth))) }
-    ensures spent { (budget : Budget) → IfSome result (λ truth. SpendsAt context.now place budget budget None) }
+    ensures { IfSome result (λ truth. AnswersTruth context.now place (Ok (Some truth))) }
 {
     context.ends_once();
     match context.node(place).kind {
@@ -41,8 +38,7 @@ pub(crate) fn compared_with_literal(
 ) -> Option<bool>
     requires stands { PartStands context.now place }
     requires here { HasOperator context.now.list place (BinaryOperator.Comparison comparison) }
-    ensures answers { IfSome result (λ truth. AnswersTruth context.now place (Ok (Some truth))) }
-    ensures spent { (budget : Budget) → IfSome result (λ truth. SpendsAt context.now place budget budget None) }
+    ensures { IfSome result (λ truth. AnswersTruth context.now place (Ok (Some truth))) }
 {
     context.ends_once();
     comparisons_are_decided();

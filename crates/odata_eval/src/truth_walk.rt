@@ -25,8 +25,8 @@ use super::walk_operand::{
 use edm_values::Value;
 use odata_checked_filter::NodeKind;
 use odata_filter_operations::{
-    EvalFault, called_on_two, compare_kept, compare_numbers, datum_of, datum_of_number, kept_truth,
-    truth_of,
+    EvalFault, called_on_two, compare_kept, compare_numbers, cost_of_two, datum_of,
+    datum_of_number, kept_truth, stored_cost, truth_of,
 };
 use odata_functions::{comparisons_are_decided, not3};
 use odata_signatures::{Function, calls_have_one_type};
@@ -102,17 +102,30 @@ fn compared_truth_at<B: Counting>(
     let right_place = right_of(context, place);
     match walk_operand_at(context, place + 1) {
         WalkOperand::Leaf(left) => match walk_operand_at(context, right_place) {
-            WalkOperand::Leaf(right) => Ok(Some(compare_kept(comparison, left, right))),
+            WalkOperand::Leaf(right) => {
+                if !budget.take(stored_cost(left, right)) {
+                    return Err(EvalStop::TooCostly);
+                }
+                Ok(Some(compare_kept(comparison, left, right)))
+            }
             _ => made_truth_at(context, place, budget),
         },
-        WalkOperand::Numeric => match arithmetic_compared_at(context, place, comparison) {
-            Some(truth) => Ok(Some(truth)),
-            None => numbers_truth_at(context, place, comparison, budget),
-        },
-        _ => match kept_compared_at(context, place, comparison) {
-            Some(truth) => Ok(Some(truth)),
-            None => made_truth_at(context, place, budget),
-        },
+        WalkOperand::Numeric => {
+            if !B::is_counting() {
+                if let Some(truth) = arithmetic_compared_at(context, place, comparison) {
+                    return Ok(Some(truth));
+                }
+            }
+            numbers_truth_at(context, place, comparison, budget)
+        }
+        _ => {
+            if !B::is_counting() {
+                if let Some(truth) = kept_compared_at(context, place, comparison) {
+                    return Ok(Some(truth));
+                }
+            }
+            made_truth_at(context, place, budget)
+        }
     }
 }
 
@@ -133,19 +146,24 @@ fn numbers_truth_at<B: Counting>(
 {
     context.ends_once();
     let right_place = right_of(context, place);
-    let left = match number_at::<B>(context, place + 1) {
-        Ok(left) => left,
-        Err(fault) => return Err(EvalStop::Fault(fault)),
-    };
     match walk_operand_at(context, right_place) {
         WalkOperand::Leaf(value) => match value {
-            Value::Int(right) => Ok(Some(compare_numbers(comparison, left, Some(*right)))),
+            Value::Int(right) => match number_at(context, place + 1, budget) {
+                Ok(left) => Ok(Some(compare_numbers(comparison, left, Some(*right)))),
+                Err(stop) => Err(stop),
+            },
             _ => made_truth_at(context, place, budget),
         },
-        WalkOperand::Numeric => match number_at::<B>(context, right_place) {
-            Ok(right) => Ok(Some(compare_numbers(comparison, left, right))),
-            Err(fault) => Err(EvalStop::Fault(fault)),
-        },
+        WalkOperand::Numeric => {
+            let left = match number_at(context, place + 1, budget) {
+                Ok(left) => left,
+                Err(stop) => return Err(stop),
+            };
+            match number_at(context, right_place, budget) {
+                Ok(right) => Ok(Some(compare_numbers(comparison, left, right))),
+                Err(stop) => Err(stop),
+            }
+        }
         _ => made_truth_at(context, place, budget),
     }
 }
@@ -170,10 +188,14 @@ fn called_truth_at<B: Counting>(
     let own_stop = stop_of(context, place);
     let first = match walk_operand_at(context, place + 1) {
         WalkOperand::Leaf(value) => datum_of(value),
-        _ => match lower_start_at(context, place, function) {
-            Some(truth) => return Ok(Some(truth)),
-            None => return made_truth_at(context, place, budget),
-        },
+        _ => {
+            if !B::is_counting() {
+                if let Some(truth) = lower_start_at(context, place, function) {
+                    return Ok(Some(truth));
+                }
+            }
+            return made_truth_at(context, place, budget);
+        }
     };
     let second_place = stop_of(context, place + 1);
     if second_place == own_stop {
@@ -186,6 +208,9 @@ fn called_truth_at<B: Counting>(
         WalkOperand::Leaf(value) => datum_of(value),
         _ => return made_truth_at(context, place, budget),
     };
+    if !budget.take(cost_of_two(function, &first, &second)) {
+        return Err(EvalStop::TooCostly);
+    }
     match called_on_two(context.alloc(), function, first, second) {
         Ok(value) => Ok(truth_of(&value)),
         Err(fault) => Err(EvalStop::Fault(fault)),
@@ -205,9 +230,9 @@ fn numeric_truth_at<B: Counting>(
     ensures spent { SpendsAt context.now place (B.left budget.old) (B.left budget.new) (stopped_by result) }
 {
     context.ends_once();
-    match number_at::<B>(context, place) {
+    match number_at(context, place, budget) {
         Ok(number) => Ok(truth_of(&datum_of_number(number))),
-        Err(fault) => Err(EvalStop::Fault(fault)),
+        Err(stop) => Err(stop),
     }
 }
 
@@ -313,8 +338,10 @@ fn connected_at<B: Counting>(
         return Ok(left);
     }
     let right_place = right_of(context, place);
-    if let Some(right) = kept_truth_at(context, right_place) {
-        return Ok(join(operator, left, Some(right)));
+    if !B::is_counting() {
+        if let Some(right) = kept_truth_at(context, right_place) {
+            return Ok(join(operator, left, Some(right)));
+        }
     }
     match side_at(context, right_place, budget) {
         Ok(right) => Ok(join(operator, left, right)),

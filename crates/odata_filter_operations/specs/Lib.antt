@@ -15,4 +15,5 @@ pub mod Operators
 pub mod Outcome
 pub mod QuantifierGives
 pub mod Reports
+pub mod TextCosts
 pub mod TruthGives

@@ -17,6 +17,7 @@ mod eval_fault;
 mod function_calls;
 mod operators;
 mod stored_values;
+mod text_costs;
 
 pub use collections::{ComparedMembers, among, any_item_of, count_of, flags_of};
 pub use eval_fault::EvalFault;
@@ -25,3 +26,4 @@ pub use operators::{calculated, compare_kept, compare_numbers, negated};
 pub use stored_values::{
     datum_of, datum_of_number, datum_of_truth, kept_number, kept_truth, number_of, step, truth_of,
 };
+pub use text_costs::{comparison_cost, cost_of_one, cost_of_three, cost_of_two, stored_cost};

@@ -1,7 +1,6 @@
--- What a tree costs: exactly one number, and nothing without lambda operators.
+-- What a tree costs: exactly one number, and nothing without lambda operators on texts below a KiB.
 pub mod Once
 pub mod OneCost
-pub mod PlainTypes
 pub mod SomeCosts
 pub mod WithoutLambdas
 pub mod Zero

@@ -1,6 +1,6 @@
--- What evaluating an expression costs: how many bodies of lambda operators its meaning asks for, and how many values it
--- compares after `in` within such bodies, items of lists and members of collections (OData URL Conventions 4.01,
--- sections 5.1.1.1 and 5.1.1.13).
+-- What evaluating an expression costs: how many bodies of lambda operators its meaning asks for, how many values it
+-- compares after `in` within such bodies, items of lists and members of collections, and the whole KiB of the texts that
+-- its comparisons and functions take and make (OData URL Conventions 4.01, sections 5.1.1.1, 5.1.1.5 and 5.1.1.13).
 use Rattle.std.specs.Prelude.{◌≡◌, ◌+◌, ℕ, [], ◌∷◌, List, true, false}
 use Rattle.edm_values.specs.MomentParts.{MomentParts}
 use Rattle.edm_values.specs.Val.{Val, null, boolean, items, Vals, no_items, item}
@@ -16,14 +16,18 @@ use Rattle.odata_syntax.specs.declared.binary_operator.BinaryOperator.{BinaryOpe
 use Rattle.odata_syntax.specs.declared.binary_operator.BinaryOperator.TheVariants.{Logical}
 use Rattle.odata_signatures.specs.Typed.{Typed}
 use Rattle.odata_filter_operations.specs.CompareGives.{CompareGives}
-use Rattle.odata_filter_operations.specs.LeftFirst.{After}
 use Rattle.odata_filter_operations.specs.Outcome.{Outcome, gives, overflow, divides_by_zero}
 use Rattle.odata_meaning.specs.Environment.{Environment, bound_over, scope_of}
 use Rattle.odata_meaning.specs.Means.{Means}
 use Rattle.odata_meaning.specs.OneByOne.{ItemAlone}
+use Rattle.odata_filter_operations.specs.TextCosts.{CallCosts, comparison_cost, operator_cost}
 
 abbrev pub CostsNothing : ℕ → Type 0
 CostsNothing n = n ≡ 0
+
+-- so many, whatever is asked
+abbrev pub CostsExactly : ℕ → ℕ → Type 0
+CostsExactly cost n = n ≡ cost
 
 -- so many, and what more is asked for
 abbrev pub CostsMore : ℕ → (ℕ → Type 0) → ℕ → Type 0
@@ -85,7 +89,8 @@ item_cost (innermost ∷ others) = 1
 -- over null nothing, over a collection so many for each member that is compared with a value, up to one that is equal
 abbrev pub AmongCosts : ℕ → Val → Val → ℕ → Type 0
 AmongCosts each l null n = CostsNothing n
-AmongCosts each l (items values) n = MembersCost each Any (CompareGives Eq l) (λ v. CostsNothing) values n
+AmongCosts each l (items values) n =
+    MembersCost each Any (CompareGives Eq l) (λ v. CostsExactly (comparison_cost l v)) values n
 AmongCosts each l _ n = ⊥
 
 -- the costs of a tree, under what its meaning is given under
@@ -103,7 +108,9 @@ abbrev mutual
   ShapeCosts slots root now entity environment (logical_not operand) = Costs slots root now entity environment operand
   ShapeCosts slots root now entity environment (binary operator left right) =
       CostAfter (Means slots root now entity environment left) (Costs slots root now entity environment left)
-      (λ l. RightCosts operator l (Costs slots root now entity environment right))
+      (λ l. RightCosts operator l
+      (CostAfter (Means slots root now entity environment right) (Costs slots root now entity environment right)
+      (λ r. CostsExactly (operator_cost operator l r))))
   ShapeCosts slots root now entity environment (has left right) =
       CostAfter (Means slots root now entity environment left) (Costs slots root now entity environment left)
       (λ l. Costs slots root now entity environment right)
@@ -116,7 +123,7 @@ abbrev mutual
       CostAfter (Means slots root now entity environment left) (Costs slots root now entity environment left)
       (λ l. ItemsCost slots root now entity environment (Typed slots root (scope_of environment) left) l listed)
   ShapeCosts slots root now entity environment (call asked arguments) =
-      ArgumentsCost slots root now entity environment arguments
+      ArgumentsCost slots root now entity environment arguments (CallCosts asked)
   ShapeCosts slots root now entity environment (any_item base) = Costs slots root now entity environment base
   ShapeCosts slots root now entity environment (lambda quantifier base variable body) =
       CostAfter (Means slots root now entity environment base) (Costs slots root now entity environment base)
@@ -130,13 +137,15 @@ abbrev mutual
   ItemsCost slots root now entity environment OtherSide l no_trees = CostsNothing
   ItemsCost slots root now entity environment OtherSide l (more_trees tree more) =
       CostsMore (item_cost environment)
-      (CostAfter (After (ItemAlone slots root now entity environment OtherSide tree) (CompareGives Eq l))
+      (CostAfter (ItemAlone slots root now entity environment OtherSide tree)
       (Costs slots root now entity environment tree)
-      (OthersCost Any (ItemsCost slots root now entity environment OtherSide l more)))
+      (λ v. CostAfter (CompareGives Eq l v) (CostsExactly (comparison_cost l v))
+      (OthersCost Any (ItemsCost slots root now entity environment OtherSide l more))))
 
-  -- the arguments of a call one after another, up to a fault
-  pub ArgumentsCost : Slots → List ℕ → MomentParts → Val → Environment → Trees → ℕ → Type 0
-  ArgumentsCost slots root now entity environment no_trees = CostsNothing
-  ArgumentsCost slots root now entity environment (more_trees tree more) =
+  -- the arguments of a call one after another, up to a fault, and what their values cost it
+  pub ArgumentsCost :
+      Slots → List ℕ → MomentParts → Val → Environment → Trees → (List Val → ℕ → Type 0) → ℕ → Type 0
+  ArgumentsCost slots root now entity environment no_trees Goes = Goes []
+  ArgumentsCost slots root now entity environment (more_trees tree more) Goes =
       CostAfter (Means slots root now entity environment tree) (Costs slots root now entity environment tree)
-      (λ v. ArgumentsCost slots root now entity environment more)
+      (λ v. ArgumentsCost slots root now entity environment more (λ values. Goes (v ∷ values)))

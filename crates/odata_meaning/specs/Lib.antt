@@ -27,6 +27,7 @@ pub use Rattle.odata_filter_operations.specs.LambdaGives
 pub use Rattle.odata_filter_operations.specs.LeftFirst
 pub use Rattle.odata_filter_operations.specs.Outcome
 pub use Rattle.odata_filter_operations.specs.QuantifierGives
+pub use Rattle.odata_filter_operations.specs.TextCosts
 pub use Rattle.odata_filter_operations.specs.TruthGives
 pub use Rattle.odata_functions.specs.Arithmetic
 pub use Rattle.odata_functions.specs.Bits

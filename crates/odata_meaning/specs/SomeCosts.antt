@@ -2,7 +2,7 @@
 use Rattle.std.specs.Prelude.{ℕ, List, [], ◌∷◌, codes}
 use Rattle.edm_values.specs.MomentParts.{MomentParts}
 use Rattle.edm_values.specs.Val.{Val}
-use Rattle.odata_syntax.specs.Tree.{Shape, Tree, binary, in_list, in_path, node, trees_of_list}
+use Rattle.odata_syntax.specs.Tree.{Shape, Tree, binary, call, in_list, in_path, node, trees_of_list}
 use Rattle.odata_syntax.specs.declared.binary_operator.BinaryOperator.{BinaryOperator}
 use Rattle.odata_syntax.specs.declared.binary_operator.ComparisonOperator.{ComparisonOperator}
 use Rattle.odata_syntax.specs.declared.node.Quantifier.{Quantifier}
@@ -21,6 +21,17 @@ is_listed = node 0 0 (in_list (named (codes "t")) (trees_of_list (null_literal �
 -- `t in Tags`
 abbrev pub is_member : Tree
 is_member = node 0 0 (in_path (named (codes "t")) (named (codes "Tags")))
+
+-- `t eq t`
+abbrev pub is_itself : Tree
+is_itself = node 0 0 (binary (BinaryOperator.Comparison ComparisonOperator.Eq) (named (codes "t")) (named (codes "t")))
+
+-- `concat(t,t)`, and `concat(t,t) eq null`
+abbrev pub doubled : Tree
+doubled = node 0 0 (call (codes "concat") (trees_of_list (named (codes "t") ∷ named (codes "t") ∷ [])))
+
+abbrev pub doubled_is_null : Tree
+doubled_is_null = node 0 0 (binary (BinaryOperator.Comparison ComparisonOperator.Eq) doubled null_literal)
 
 -- `1 div 0 eq Tags/any(t:t eq null)`
 abbrev pub fault_first : Shape

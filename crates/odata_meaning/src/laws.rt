@@ -1,6 +1,6 @@
 //! Laws of what expressions mean, as contracts of functions that do nothing but cite others.
-ghost use Rattle.std.specs.Prelude.{pos, true, false, codes, [], ◌∷◌};
-ghost use Rattle.edm_values.specs.Val.{Val, boolean, items, no_items, null, whole};
+ghost use Rattle.std.specs.Prelude.{◌≡◌, ℕ, List, pos, true, false, codes, length, [], ◌∷◌};
+ghost use Rattle.edm_values.specs.Val.{Val, boolean, item, items, no_items, null, text, whole};
 ghost use Rattle.odata_syntax.specs.FirstRun.{first_run_tree};
 ghost use Rattle.odata_syntax.specs.Tree.{Tree, any_item, count, in_list, in_path, trees_of_list};
 ghost use Rattle.odata_syntax.specs.declared.node.Quantifier.{Quantifier};
@@ -17,7 +17,7 @@ ghost use Rattle.odata_meaning.specs.ComesToMembers.{over_tags, text_and_null};
 ghost use Rattle.odata_meaning.specs.OneByOne.{ComparedOneByOne, ItemsOneByOne, MembersOneByOne};
 ghost use Rattle.odata_meaning.specs.OneOutcome.{ValuesHaveOneOutcome};
 ghost use Rattle.odata_filter_operations.specs.Outcome.{gives, divides_by_zero};
-ghost use Rattle.odata_meaning.specs.SomeCosts.{CostsOnTags, fault_first, is_listed, is_member};
+ghost use Rattle.odata_meaning.specs.SomeCosts.{CostsOnTags, doubled_is_null, fault_first, is_itself, is_listed, is_member};
 ghost use Rattle.odata_meaning.specs.UnreadMeans.{FlagsAlone, ItemsAlone, OperandsAlone};
 ghost use Rattle.odata_meaning.specs.SameMeaning.{NormalFormsKeepOutcomes, CanonicalTextsKeepOutcomes};
 ghost use Rattle.odata_meaning.specs.private.LawsBelow.{OneEach, Promotes, SomeEach};
@@ -83,7 +83,8 @@ pub fn typed_trees_end_once_on_entities()
     what_fits_has_its_type();
 }
 
-/// A law: a typed expression has exactly one cost on every entity. It is none where no lambda operator stands in it.
+/// A law: a typed expression has exactly one cost on every entity. It is none where no lambda operator stands in it, and
+/// all texts are below a KiB.
 pub fn typed_trees_cost_once_on_entities()
     ensures once { CostsOnceOnEntities }
     ensures nothing { CostsNothingWithoutLambdas }
@@ -189,13 +190,18 @@ pub fn members_come_to()
 
 /// Worked costs of filters on the same members. `any` asks for the second member's body, `all` for the first one's
 /// alone; an operator in another one for its own each time; a list within a body for its items, and a collection there
-/// for its members, up to the one that is equal; nothing is asked for over null, over none, and after a fault.
+/// for its members, up to the one that is equal; a comparison of texts for their whole KiB, and a call for those and 16
+/// times the whole KiB that it makes; nothing is asked for over null, over none, and after a fault.
 pub fn members_cost()
     ensures some { CostsOnTags text_and_null (over_tags Any is_null) 2 }
     ensures not_all { CostsOnTags text_and_null (over_tags All is_null) 1 }
     ensures within { CostsOnTags text_and_null (over_tags Any all_alike) 5 }
     ensures listed { CostsOnTags text_and_null (over_tags All is_listed) 3 }
     ensures compared { CostsOnTags text_and_null (over_tags All is_member) 5 }
+    ensures long_texts { (s : List ℕ) → length s ≡ 2048
+        → CostsOnTags (items (item (text s) no_items)) (over_tags Any is_itself) 5 }
+    ensures made_texts { (s : List ℕ) → length s ≡ 2048
+        → CostsOnTags (items (item (text s) no_items)) (over_tags Any doubled_is_null) 69 }
     ensures of_none { (quantifier : Quantifier) (body : Tree)
         → CostsOnTags (items no_items) (over_tags quantifier body) 0 }
     ensures of_null { (quantifier : Quantifier) (body : Tree) → CostsOnTags null (over_tags quantifier body) 0 }

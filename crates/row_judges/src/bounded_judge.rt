@@ -25,7 +25,8 @@ use serde_json::Value;
 use std::alloc::Global;
 
 /// Judges rows by a filter, each within a bound on its cost. The bound is on the bodies of lambda operators that the
-/// filter evaluates on the row, and the values that it compares after `in` within them.
+/// filter evaluates on the row, the values that it compares after `in` within them, and the KiB of texts that it takes
+/// and makes.
 #[derive(Drop)]
 pub struct BoundedJudge<'c, 's> {
     pub checked: &'c Checked<'s>,

@@ -1,6 +1,5 @@
 use Rattle.std.proofs.Common.{Err, None, ◌≡◌, ◌<◌, ◌≤◌, ◌+◌, ◌-◌, ◌∙◌, ℕ, ℤ, [], ◌∷◌, refl, Bool, Option, Some, Result, Ok, SFits, w64, ap, sym, subst, slice_get, length, rules, arith}
 use Rattle.edm_values.specs.declared.datum.Datum.{Datum}
-use Rattle.edm_values.specs.declared.datum.Datum.TheVariants as datum
 use Rattle.std.specs.Prelude.{◌↔◌, IsTrue}
 use Rattle.std.proofs.lemmas.Int.{to_z-of_z}
 use Rattle.std.proofs.lemmas.Option.{slice_get_read}
@@ -24,23 +23,26 @@ use Rattle.odata_filter_operations.specs.CollectionGives.{AnyItemGives, CountGiv
 use Rattle.odata_filter_operations.specs.HasGives.{HasGives}
 use Rattle.odata_filter_operations.specs.LambdaGives.{InGives}
 use Rattle.odata_filter_operations.specs.Outcome.{gives}
+use Rattle.odata_filter_operations.specs.TextCosts.{comparison_cost}
 use Rattle.odata_filter_operations.specs.TruthGives.{truth_val}
+use Rattle.edm_entities.specs.Row.{val_of}
 use Rattle.odata_filter_operations.specs.DatumView.{reading_at}
 use Rattle.odata_eval.specs.declared.stop.EvalStop.{EvalStop}
 use Rattle.odata_meaning.specs.Costs.{item_cost}
 use Rattle.odata_eval.specs.private.EvalContext.{EndsOnceHere, TypedHere}
-use Rattle.odata_eval.specs.private.Spending.{CountedDatum, CountedMembers, CountedTruth, SpendsAt, IsTaken, Takes, compared_cost, datum_stop, stopped_by}
+use Rattle.odata_eval.specs.private.Spending.{CountedDatum, CountedMembers, CountedNumber, CountedTruth, SpendsAt, IsTaken, Takes, datum_stop, path_due, stopped_by}
 use Rattle.odata_eval.specs.declared.budget.Budget.{Budget}
-use Rattle.odata_eval.proofs.spending.Bound.{never_costly}
 use Rattle.odata_eval.proofs.spending.Budgets.{takes_nothing}
-use Rattle.odata_eval.proofs.spending.Free.{called_free, leaf_free, numeric_free}
-use Rattle.odata_eval.proofs.spending.ItemStops.{item_ends, item_pays, item_stops, list_ends, list_is_costly}
+use Rattle.odata_eval.proofs.spending.Calls.{AllWalked, call_spends, call_stops}
+use Rattle.odata_eval.proofs.spending.Free.{leaf_free}
+use Rattle.odata_eval.proofs.spending.ItemStops.{item_ends, item_is_costly, item_pays, item_stops, list_ends, list_is_costly}
 use Rattle.odata_eval.proofs.spending.Lambdas.{members_spend, null_spends}
-use Rattle.odata_eval.proofs.spending.Paths.{path_faults, path_spends}
-use Rattle.odata_eval.proofs.spending.Rests.{free_spends, nothing_more, right_asked, right_compared, right_left_out}
+use Rattle.odata_eval.proofs.spending.Operators.{both_spend, right_stops}
+use Rattle.odata_eval.proofs.spending.Paths.{path_spends, path_stops}
+use Rattle.odata_eval.proofs.spending.Rests.{flags_spend, free_spends, nothing_more, right_asked, right_left_out}
 use Rattle.odata_eval.proofs.spending.Splits.{first_stops}
-use Rattle.odata_eval.proofs.spending.Stops.{after_stop, after_value, as_counted, as_spent, by_stop, datum_faults, fault_nothing, next_spent, truth_faults}
-use Rattle.odata_eval.proofs.spending.Wholes.{both_free}
+use Rattle.odata_eval.proofs.spending.Stops.{after_stop, after_value, as_counted, as_number, as_paid, as_spent, by_stop, datum_faults, fault_paid, next_spent, number_faults, number_spent, truth_faults, unbounded_spends}
+use Rattle.odata_eval.proofs.spending.TextCosts.{numbers_cost}
 use Rattle.odata_eval.proofs.spending.Members.{all_paid, body_decides, body_passes, body_stops, none_left, none_paid}
 use Rattle.odata_eval.specs.private.Place.{HasCall, HasKind, HasOperator, IsNumberOperand, IsStopOf, NumberStands, OperandStands, PartStands, TruthStands}
 use Rattle.odata_eval.specs.private.WalkClass.{walk_of_kind}
@@ -52,21 +54,21 @@ use Rattle.odata_eval.proofs.walking.Parts.{found_there, part_inside, there_foun
 use Rattle.odata_eval.proofs.walking.CallSteps.{OneName, argument_behind, argument_faults, argument_stands, call_answers, call_applies, first_argument, third_is_last}
 use Rattle.odata_meaning.specs.private.LawsBelow.{Promotes}
 use Rattle.odata_eval.proofs.walking.BaseSteps.{any_item_base, base_answers, base_members, count_base}
-use Rattle.odata_eval.proofs.walking.ItemSteps.{equal_due, item_differs, item_equals, item_faults, items_there, list_begins, lists_there, may_compare_item, next_item, no_item, stop_further}
+use Rattle.odata_eval.proofs.walking.ItemSteps.{equal_due, item_differs, item_equals, item_faults, items_there, list_begins, lists_there, may_compare_item, next_due, next_item, no_item, stop_further}
 use Rattle.odata_eval.proofs.walking.Lambdas.{body_behind, body_place, body_there, fault_answers, members_suit, null_answers, over_members, truth_answers}
 use Rattle.odata_eval.proofs.walking.MembersAsked.{all_undecided, body_truth, decided_at, each_is, fault_at, none_yet, undecided_at}
 use Rattle.odata_eval.proofs.walking.MemberValues.{flags_are, path_gives, some_compared}
 use Rattle.odata_eval.proofs.walking.Sides.{flags_sides, next_faults, next_further, next_part, next_there, NoOperand, path_sides, sides_answer, some_sides}
 use Rattle.odata_eval.proofs.walking.MemberSteps.{step_answers, step_slot}
 use Rattle.odata_eval.proofs.walking.Compared.{kept_compared, may_compare, may_compare_kept, numbers_compared, truth_compared}
-use Rattle.odata_eval.proofs.walking.KeptValues.{kept_value, value_kept}
+use Rattle.odata_eval.proofs.walking.KeptValues.{at_types, kept_value, value_kept}
 use Rattle.odata_eval.proofs.walking.Readings.{number_values, truth_values}
 use Rattle.odata_eval.proofs.walking.Extents.{right_further, right_part, right_there, right_typed}
-use Rattle.odata_eval.proofs.walking.Spines.{StepUp, at_top, below_bottom, bottom_down, first_faults, logical_stands, first_part, first_step, only_neg, only_not, part_down, step_up, typed_down, typed_part, walks_by}
+use Rattle.odata_eval.proofs.walking.Spines.{StepUp, at_top, below_bottom, bottom_down, first_faults, logical_stands, first_part, only_neg, only_not, part_down, step_up, typed_down, typed_part, walks_by}
 use Rattle.odata_eval.proofs.walking.WalkSteps.{both_faults, calculation_answers, decided_answers, joined_answers, joined_faults, negated_operand, negation_answers, not_answers, numbers_there}
 use Rattle.odata_eval.proofs.walking.WalkValues.{kept_datum, made_value, read_value, value_there}
 use Rattle.odata_eval.proofs.walking.Operands.{operand_inside, tree_of_class, tree_operand}
-use Rattle.odata_eval.proofs.walking.Measures.{measure_at, rank_counted, rank_eager, rank_made_number, rank_number_operand, rank_numbers, rank_operand, rank_plain, rank_rest, rank_step, rank_test, rank_truth}
+use Rattle.odata_eval.proofs.walking.Measures.{measure_at, rank_counted, rank_eager, rank_number_operand, rank_numbers, rank_operand, rank_plain, rank_rest, rank_step, rank_test, rank_truth}
 use Rattle.odata_eval.proofs.+evaluate.Goals as goal
 
 pub truth_walk::truth_at-returns-clause-answers : goal.truth_walk::truth_at-returns-clause-answers
@@ -90,7 +92,7 @@ pub datum_walk::counted_at-returns-in-Ok-clause-answers : goal.datum_walk::count
 datum_walk::counted_at-returns-in-Ok-clause-answers g t c = made_value c.args.context.now c.args.place c.datum_of_truth.result (truth_val c.in-Ok.truth) c.in-Ok.ensures.answers c.datum_of_truth.ensures
 
 pub datum_walk::counted_at-returns-in-Ok-number_at-clause-answers : goal.datum_walk::counted_at-returns-in-Ok-number_at-clause-answers
-datum_walk::counted_at-returns-in-Ok-number_at-clause-answers g t c = made_value c.args.context.now c.args.place c.datum_of_number.result (number_val c.in-Ok-number_at.number) c.in-Ok-number_at.ensures c.datum_of_number.ensures
+datum_walk::counted_at-returns-in-Ok-number_at-clause-answers g t c = made_value c.args.context.now c.args.place c.datum_of_number.result (number_val c.in-Ok-number_at.number) c.in-Ok-number_at.ensures.answers c.datum_of_number.ensures
 
 pub truth_walk::truth_at-plain_truth_at-answer-requires : goal.truth_walk::truth_at-plain_truth_at-answer-requires
 truth_walk::truth_at-plain_truth_at-answer-requires g t c =
@@ -161,12 +163,12 @@ truth_walk::connected_at-kept_truth_at-requires g t c = record {
 pub truth_walk::connected_at-returns-in-Some-clause-answers : goal.truth_walk::connected_at-returns-in-Some-clause-answers
 truth_walk::connected_at-returns-in-Some-clause-answers g t c =
     subst (λ (r : Option Bool). AnswersTruth c.args.context.now c.args.place (Ok r)) (sym c.join.ensures) (joined_answers c.args.context.now c.args.place c.args.operator c.requires.here c.args.left c.right_of-right_place.result c.right_of-right_place.ensures
-    (λ decided. let e = c.decides.ensures.1 decided in cc) c.requires.left (Some c.in-Some.right) c.in-Some.ensures.answers)
+    (λ decided. let e = c.decides.ensures.1 decided in cc) c.requires.left (Some c.in-Some.right) c.in-Some.ensures)
 
 pub truth_walk::connected_at-returns-in-Some-clause-spent : goal.truth_walk::connected_at-returns-in-Some-clause-spent
 truth_walk::connected_at-returns-in-Some-clause-spent g t c =
     right_asked c.args.context.now c.args.place c.args.operator c.requires.here c.ends_once.ensures c.args.left c.requires.left (λ decided. let e = c.decides.ensures.1 decided in cc) c.right_of-right_place.result c.right_of-right_place.ensures (g.B.Counting.left c.args.budget.now) (g.B.Counting.left c.args.budget.now) None
-    (c.in-Some.ensures.spent (g.B.Counting.left c.args.budget.now))
+    (unbounded_spends c.args.context.now c.right_of-right_place.result (g.B.Counting.left c.args.budget.now) (c.is_counting.ensures c.if-not-is_counting.true c.args.budget.now))
 
 pub truth_walk::connected_at-returns-in-Ok-clause-answers : goal.truth_walk::connected_at-returns-in-Ok-clause-answers
 truth_walk::connected_at-returns-in-Ok-clause-answers g t c =
@@ -202,14 +204,26 @@ datum_walk::made_at-returns-in-Member-clause-answers g t c =
 
 pub number_walk::made_number_at-number_of-requires : goal.number_walk::made_number_at-number_of-requires
 number_walk::made_number_at-number_of-requires g t c = λ reading.
-    value_there c.args.context.now c.args.place number_values c.ends_once.ensures c.in-Ok.value c.requires.stands c.in-Ok.ensures reading
+    value_there c.args.context.now c.args.place number_values c.ends_once.ensures c.in-Ok.value c.requires.stands c.in-Ok.ensures.answers reading
 
-pub number_walk::made_number_at-returns-in-Ok : goal.number_walk::made_number_at-returns-in-Ok
-number_walk::made_number_at-returns-in-Ok g t c =
-    read_value c.args.context.now c.args.place c.in-Ok.value (number_val c.number_of.result) c.in-Ok.ensures c.number_of.ensures
+pub number_walk::made_number_at-returns-in-Ok-clause-answers : goal.number_walk::made_number_at-returns-in-Ok-clause-answers
+number_walk::made_number_at-returns-in-Ok-clause-answers g t c =
+    read_value c.args.context.now c.args.place c.in-Ok.value (number_val c.number_of.result) c.in-Ok.ensures.answers c.number_of.ensures
 
-pub number_walk::numeric_at-returns-in-Err : goal.number_walk::numeric_at-returns-in-Err
-number_walk::numeric_at-returns-in-Err g t c = first_faults c.args.context.now c.args.place WalkClass.Numeric c.in-Err.fault (λ leaf. cc) c.requires.numeric (subst (λ (r : Result (Option ℤ) EvalFault). AnswersNumber c.args.context.now (c.args.place + 1) r) c.in-Err.is c.requires.first)
+pub number_walk::made_number_at-returns-in-Err-clause-answers : goal.number_walk::made_number_at-returns-in-Err-clause-answers
+number_walk::made_number_at-returns-in-Err-clause-answers g t c =
+    by_stop (λ s. CountedDatum c.args.context.now c.args.place (Err s)) (λ s. CountedNumber c.args.context.now c.args.place (Err s)) (λ fault is. is) (λ is. tt) c.in-Err.stop c.in-Err.ensures.answers
+
+pub number_walk::numeric_at-returns-in-Err-clause-answers : goal.number_walk::numeric_at-returns-in-Err-clause-answers
+number_walk::numeric_at-returns-in-Err-clause-answers g t c =
+    by_stop (λ s. CountedNumber c.args.context.now (c.args.place + 1) (Err s)) (λ s. CountedNumber c.args.context.now c.args.place (Err s)) (λ fault. first_faults c.args.context.now c.args.place WalkClass.Numeric fault (λ leaf. cc) c.requires.numeric) (λ is. tt) c.in-Err.stop
+    (subst (λ (r : Result (Option ℤ) EvalStop). CountedNumber c.args.context.now (c.args.place + 1) r) c.in-Err.is c.requires.first)
+
+pub number_walk::numeric_at-returns-in-Err-clause-spent : goal.number_walk::numeric_at-returns-in-Err-clause-spent
+number_walk::numeric_at-returns-in-Err-clause-spent g t c =
+    after_stop (Option ℤ) c.args.context.now c.args.place c.args.first c.in-Err.stop (g.B.Counting.left c.args.budget.now) (g.B.Counting.left c.args.budget.now) (Some c.in-Err.stop) c.in-Err.is
+    (first_stops c.args.context.now c.ends_once.ensures c.args.place WalkClass.Numeric (λ leaf. cc) c.requires.numeric c.in-Err.stop
+    (number_faults c.args.context.now (c.args.place + 1) c.in-Err.stop (subst (λ (r : Result (Option ℤ) EvalStop). CountedNumber c.args.context.now (c.args.place + 1) r) c.in-Err.is c.requires.first)) (g.B.Counting.left c.args.budget.now))
 
 pub number_walk::numeric_at-node-node-requires : goal.number_walk::numeric_at-node-node-requires
 number_walk::numeric_at-node-node-requires g t c = part_inside c.args.context.now c.args.place c.requires.stands
@@ -228,13 +242,28 @@ number_walk::calculated_at-number_operand_at-requires g t c =
 pub number_walk::calculated_at-calculated-requires : goal.number_walk::calculated_at-calculated-requires
 number_walk::calculated_at-calculated-requires g t c =
     let promotes : Promotes = record { left = c.operands_lie_within_promotion.ensures.left; right = c.operands_lie_within_promotion.ensures.right; negation = c.operands_lie_within_promotion.ensures.negation; three = c.operands_lie_within_promotion.ensures.three } in
-    numbers_there c.args.context.now c.args.place c.args.operator c.requires.here c.right_of.result c.right_of.ensures c.args.left c.in-Ok.right c.requires.left c.in-Ok.ensures c.node-node.result.now c.node-node.ensures c.ends_once.ensures promotes c.requires.stands
+    numbers_there c.args.context.now c.args.place c.args.operator c.requires.here c.right_of.result c.right_of.ensures c.args.left c.in-Ok.right c.requires.left c.in-Ok.ensures.answers c.node-node.result.now c.node-node.ensures c.ends_once.ensures promotes c.requires.stands
 
-pub number_walk::calculated_at-returns-in-Ok : goal.number_walk::calculated_at-returns-in-Ok
-number_walk::calculated_at-returns-in-Ok g t c = calculation_answers c.args.context.now c.args.place c.args.operator c.requires.here c.right_of.result c.right_of.ensures c.args.left c.in-Ok.right c.requires.left c.in-Ok.ensures c.node-node.result.now c.node-node.ensures c.calculated.result c.trees_have_one_type.ensures c.calculated.ensures
+pub number_walk::calculated_at-returns-in-Ok-clause-answers : goal.number_walk::calculated_at-returns-in-Ok-clause-answers
+number_walk::calculated_at-returns-in-Ok-clause-answers g t c =
+    as_number c.args.context.now c.args.place c.calculated.result c.number_stop.result c.number_stop.ensures
+    (calculation_answers c.args.context.now c.args.place c.args.operator c.requires.here c.right_of.result c.right_of.ensures c.args.left c.in-Ok.right c.requires.left c.in-Ok.ensures.answers c.node-node.result.now c.node-node.ensures c.calculated.result c.trees_have_one_type.ensures c.calculated.ensures)
 
-pub number_walk::calculated_at-returns-in-Err : goal.number_walk::calculated_at-returns-in-Err
-number_walk::calculated_at-returns-in-Err g t c = both_faults c.args.context.now c.args.place (BinaryOperator.Arithmetic c.args.operator) c.requires.here c.right_of.result c.right_of.ensures (λ type. number_val c.args.left) c.in-Err.fault tt c.requires.left c.in-Err.ensures
+pub number_walk::calculated_at-returns-in-Ok-clause-spent : goal.number_walk::calculated_at-returns-in-Ok-clause-spent
+number_walk::calculated_at-returns-in-Ok-clause-spent g t c =
+    both_spend c.args.context.now c.args.place (BinaryOperator.Arithmetic c.args.operator) c.requires.here tt c.ends_once.ensures (λ type. number_val c.args.left) c.requires.left c.right_of.result c.right_of.ensures (λ type. number_val c.in-Ok.right) c.in-Ok.ensures.answers 0 (λ s t. refl)
+    (g.B.Counting.left c.args.budget.now) (g.B.Counting.left c.number_operand_at.new.budget) (g.B.Counting.left c.number_operand_at.new.budget) (stopped_by c.number_stop.result) c.in-Ok.ensures.spent (number_spent c.calculated.result c.number_stop.result (g.B.Counting.left c.number_operand_at.new.budget) c.number_stop.ensures)
+
+pub number_walk::calculated_at-returns-in-Err-clause-answers : goal.number_walk::calculated_at-returns-in-Err-clause-answers
+number_walk::calculated_at-returns-in-Err-clause-answers g t c =
+    by_stop (λ s. CountedNumber c.args.context.now c.right_of.result (Err s)) (λ s. CountedNumber c.args.context.now c.args.place (Err s))
+    (λ fault. both_faults c.args.context.now c.args.place (BinaryOperator.Arithmetic c.args.operator) c.requires.here c.right_of.result c.right_of.ensures (λ type. number_val c.args.left) fault tt c.requires.left)
+    (λ is. tt) c.in-Err.stop c.in-Err.ensures.answers
+
+pub number_walk::calculated_at-returns-in-Err-clause-spent : goal.number_walk::calculated_at-returns-in-Err-clause-spent
+number_walk::calculated_at-returns-in-Err-clause-spent g t c =
+    right_stops c.args.context.now c.args.place (BinaryOperator.Arithmetic c.args.operator) c.requires.here tt c.ends_once.ensures (λ type. number_val c.args.left) c.requires.left c.right_of.result c.right_of.ensures c.in-Err.stop
+    (number_faults c.args.context.now c.right_of.result c.in-Err.stop c.in-Err.ensures.answers) (g.B.Counting.left c.args.budget.now) (g.B.Counting.left c.number_operand_at.new.budget) c.in-Err.ensures.spent
 
 -- ---- a comparison of values that are made
 
@@ -242,33 +271,23 @@ pub datum_walk::compared_at-right_of-right_place-requires : goal.datum_walk::com
 datum_walk::compared_at-right_of-right_place-requires g t c =
     right_there c.args.context.now c.args.place (BinaryOperator.Comparison c.args.comparison) c.requires.here c.requires.stands
 
-pub datum_walk::compared_at-compare-requires : goal.datum_walk::compared_at-compare-requires
-datum_walk::compared_at-compare-requires g t c =
-    may_compare c.args.context.now c.args.place c.args.comparison c.requires.here c.right_of-right_place.result c.right_of-right_place.ensures c.args.left c.datum_of.result c.requires.left
-    (kept_datum c.args.context.now c.right_of-right_place.result c.in-Leaf.value.now c.datum_of.result c.in-Leaf.ensures.0 c.datum_of.ensures) c.ends_once.ensures c.comparisons_are_decided.ensures.any_reading c.requires.stands
-
-pub datum_walk::compared_at-returns-in-Leaf-clause-answers : goal.datum_walk::compared_at-returns-in-Leaf-clause-answers
-datum_walk::compared_at-returns-in-Leaf-clause-answers g t c =
-    truth_compared c.args.context.now c.args.place c.args.comparison c.requires.here c.right_of-right_place.result c.right_of-right_place.ensures c.args.left c.datum_of.result c.requires.left
-    (kept_datum c.args.context.now c.right_of-right_place.result c.in-Leaf.value.now c.datum_of.result c.in-Leaf.ensures.0 c.datum_of.ensures) c.ends_once.ensures c.comparisons_are_decided.ensures.any_reading c.requires.stands c.compare.result c.compare.ensures
-
-pub datum_walk::compared_at-counted_at-requires : goal.datum_walk::compared_at-counted_at-requires
-datum_walk::compared_at-counted_at-requires g t c =
+pub datum_walk::compared_at-likely_stored_at-requires : goal.datum_walk::compared_at-likely_stored_at-requires
+datum_walk::compared_at-likely_stored_at-requires g t c =
     let inside : c.args.place < length c.args.context.now.list.nodes = part_inside c.args.context.now c.args.place c.requires.stands in
     let behind : c.args.place < c.right_of-right_place.result = right_further c.args.context.now c.args.place (BinaryOperator.Comparison c.args.comparison) c.requires.here c.requires.stands c.right_of-right_place.result c.right_of-right_place.ensures in
-    let smaller : measure_at c.args.context.now.list.nodes c.right_of-right_place.result rank_counted < measure_at c.args.context.now.list.nodes c.args.place rank_rest = omega arith in
+    let smaller : measure_at c.args.context.now.list.nodes c.right_of-right_place.result rank_operand < measure_at c.args.context.now.list.nodes c.args.place rank_rest = omega arith in
     let stands : OperandStands c.args.context.now c.right_of-right_place.result = right_part c.args.context.now c.args.place (BinaryOperator.Comparison c.args.comparison) c.requires.here c.requires.stands c.right_of-right_place.result c.right_of-right_place.ensures in
     search rules
 
-pub datum_walk::compared_at-compare-requires-in-Ok : goal.datum_walk::compared_at-compare-requires-in-Ok
-datum_walk::compared_at-compare-requires-in-Ok g t c =
+pub datum_walk::compared_at-compare-requires : goal.datum_walk::compared_at-compare-requires
+datum_walk::compared_at-compare-requires g t c =
     may_compare c.args.context.now c.args.place c.args.comparison c.requires.here c.right_of-right_place.result c.right_of-right_place.ensures c.args.left c.in-Ok.right c.requires.left
     c.in-Ok.ensures.answers c.ends_once.ensures c.comparisons_are_decided.ensures.any_reading c.requires.stands
 
 pub datum_walk::compared_at-returns-in-Ok-clause-answers : goal.datum_walk::compared_at-returns-in-Ok-clause-answers
 datum_walk::compared_at-returns-in-Ok-clause-answers g t c =
     truth_compared c.args.context.now c.args.place c.args.comparison c.requires.here c.right_of-right_place.result c.right_of-right_place.ensures c.args.left c.in-Ok.right c.requires.left
-    c.in-Ok.ensures.answers c.ends_once.ensures c.comparisons_are_decided.ensures.any_reading c.requires.stands c.compare-in-Ok.result c.compare-in-Ok.ensures
+    c.in-Ok.ensures.answers c.ends_once.ensures c.comparisons_are_decided.ensures.any_reading c.requires.stands c.compare.result c.compare.ensures
 
 pub datum_walk::compared_at-returns-clause-answers : goal.datum_walk::compared_at-returns-clause-answers
 datum_walk::compared_at-returns-clause-answers g t c =
@@ -285,10 +304,14 @@ pub truth_walk::plain_truth_at-returns-in-Leaf-clause-answers : goal.truth_walk:
 truth_walk::plain_truth_at-returns-in-Leaf-clause-answers g t c = kept_value c.args.context.now c.args.place c.in-Leaf.value.now c.in-Leaf.ensures.0 (truth_val c.kept_truth.result) c.kept_truth.ensures
 
 pub truth_walk::numeric_truth_at-truth_of-requires : goal.truth_walk::numeric_truth_at-truth_of-requires
-truth_walk::numeric_truth_at-truth_of-requires g t c = λ reading. value_there c.args.context.now c.args.place truth_values c.ends_once.ensures c.datum_of_number.result c.requires.stands (made_value c.args.context.now c.args.place c.datum_of_number.result (number_val c.in-Ok.number) c.in-Ok.ensures c.datum_of_number.ensures) reading
+truth_walk::numeric_truth_at-truth_of-requires g t c = λ reading. value_there c.args.context.now c.args.place truth_values c.ends_once.ensures c.datum_of_number.result c.requires.stands (made_value c.args.context.now c.args.place c.datum_of_number.result (number_val c.in-Ok.number) c.in-Ok.ensures.answers c.datum_of_number.ensures) reading
 
 pub truth_walk::numeric_truth_at-returns-in-Ok-clause-answers : goal.truth_walk::numeric_truth_at-returns-in-Ok-clause-answers
-truth_walk::numeric_truth_at-returns-in-Ok-clause-answers g t c = read_value c.args.context.now c.args.place c.datum_of_number.result (truth_val c.truth_of.result) (made_value c.args.context.now c.args.place c.datum_of_number.result (number_val c.in-Ok.number) c.in-Ok.ensures c.datum_of_number.ensures) c.truth_of.ensures
+truth_walk::numeric_truth_at-returns-in-Ok-clause-answers g t c = read_value c.args.context.now c.args.place c.datum_of_number.result (truth_val c.truth_of.result) (made_value c.args.context.now c.args.place c.datum_of_number.result (number_val c.in-Ok.number) c.in-Ok.ensures.answers c.datum_of_number.ensures) c.truth_of.ensures
+
+pub truth_walk::numeric_truth_at-returns-in-Err-clause-answers : goal.truth_walk::numeric_truth_at-returns-in-Err-clause-answers
+truth_walk::numeric_truth_at-returns-in-Err-clause-answers g t c =
+    by_stop (λ s. CountedNumber c.args.context.now c.args.place (Err s)) (λ s. CountedTruth c.args.context.now c.args.place (Err s)) (λ fault is. is) (λ is. tt) c.in-Err.stop c.in-Err.ensures.answers
 
 -- ---- a comparison of values where they stand
 
@@ -305,8 +328,8 @@ truth_walk::compared_truth_at-compare_kept-requires g t c =
     let here = c.requires.here in
     may_compare_kept c.args.context.now c.args.place c.args.comparison here c.right_of-right_place.result c.right_of-right_place.ensures c.in-Leaf.left.now c.in-Leaf-walk_operand_at.right.now c.in-Leaf.ensures.0 c.in-Leaf-walk_operand_at.ensures.0 c.ends_once.ensures c.comparisons_are_decided.ensures.any_contents (typed_part c.args.context.now c.args.place IsBooleanOrNull c.requires.stands)
 
-pub truth_walk::compared_truth_at-returns-in-Leaf-walk_operand_at-clause-answers : goal.truth_walk::compared_truth_at-returns-in-Leaf-walk_operand_at-clause-answers
-truth_walk::compared_truth_at-returns-in-Leaf-walk_operand_at-clause-answers g t c =
+pub truth_walk::compared_truth_at-returns-else-not-take-clause-answers : goal.truth_walk::compared_truth_at-returns-else-not-take-clause-answers
+truth_walk::compared_truth_at-returns-else-not-take-clause-answers g t c =
     let here = c.requires.here in
     kept_compared c.args.context.now c.args.place c.args.comparison here c.right_of-right_place.result c.right_of-right_place.ensures c.in-Leaf.left.now c.in-Leaf-walk_operand_at.right.now c.in-Leaf.ensures.0 c.in-Leaf-walk_operand_at.ensures.0 c.ends_once.ensures c.comparisons_are_decided.ensures.any_contents (typed_part c.args.context.now c.args.place IsBooleanOrNull c.requires.stands) c.compare_kept.result c.compare_kept.ensures
 
@@ -324,22 +347,29 @@ truth_walk::compared_truth_at-arithmetic_compared_at-requires g t c = record {
 }
 
 pub truth_walk::compared_truth_at-returns-in-Some-clause-answers : goal.truth_walk::compared_truth_at-returns-in-Some-clause-answers
-truth_walk::compared_truth_at-returns-in-Some-clause-answers g t c = c.in-Some.ensures.answers
+truth_walk::compared_truth_at-returns-in-Some-clause-answers g t c = c.in-Some.ensures
 
 pub truth_walk::compared_truth_at-returns-in-Some-clause-spent : goal.truth_walk::compared_truth_at-returns-in-Some-clause-spent
-truth_walk::compared_truth_at-returns-in-Some-clause-spent g t c = c.in-Some.ensures.spent (g.B.Counting.left c.args.budget.now)
+truth_walk::compared_truth_at-returns-in-Some-clause-spent g t c =
+    unbounded_spends c.args.context.now c.args.place (g.B.Counting.left c.args.budget.now) (c.is_counting.ensures c.if-not-is_counting.true c.args.budget.now)
 
 pub truth_walk::compared_truth_at-returns-in-Some-kept_compared_at-clause-answers : goal.truth_walk::compared_truth_at-returns-in-Some-kept_compared_at-clause-answers
-truth_walk::compared_truth_at-returns-in-Some-kept_compared_at-clause-answers g t c = c.in-Some-kept_compared_at.ensures.answers
+truth_walk::compared_truth_at-returns-in-Some-kept_compared_at-clause-answers g t c = c.in-Some-kept_compared_at.ensures
 
 pub truth_walk::compared_truth_at-returns-in-Some-kept_compared_at-clause-spent : goal.truth_walk::compared_truth_at-returns-in-Some-kept_compared_at-clause-spent
-truth_walk::compared_truth_at-returns-in-Some-kept_compared_at-clause-spent g t c = c.in-Some-kept_compared_at.ensures.spent (g.B.Counting.left c.args.budget.now)
+truth_walk::compared_truth_at-returns-in-Some-kept_compared_at-clause-spent g t c =
+    unbounded_spends c.args.context.now c.args.place (g.B.Counting.left c.args.budget.now) (c.is_counting-in_default.ensures c.if-not-is_counting-2.true c.args.budget.now)
 
 pub truth_walk::numbers_truth_at-right_of-right_place-requires : goal.truth_walk::numbers_truth_at-right_of-right_place-requires
 truth_walk::numbers_truth_at-right_of-right_place-requires g t c = right_there c.args.context.now c.args.place (BinaryOperator.Comparison c.args.comparison) c.requires.here (typed_part c.args.context.now c.args.place IsBooleanOrNull c.requires.stands)
 
 pub truth_walk::numbers_truth_at-overflow_add-place : goal.truth_walk::numbers_truth_at-overflow_add-place
 truth_walk::numbers_truth_at-overflow_add-place g t c =
+    let behind = right_further c.args.context.now c.args.place (BinaryOperator.Comparison c.args.comparison) c.requires.here (typed_part c.args.context.now c.args.place IsBooleanOrNull c.requires.stands) c.right_of-right_place.result c.right_of-right_place.ensures in
+    omega (arith, behind, c.right_of-right_place.type_inv)
+
+pub truth_walk::numbers_truth_at-overflow_add-place-in-Numeric : goal.truth_walk::numbers_truth_at-overflow_add-place-in-Numeric
+truth_walk::numbers_truth_at-overflow_add-place-in-Numeric g t c =
     let behind = right_further c.args.context.now c.args.place (BinaryOperator.Comparison c.args.comparison) c.requires.here (typed_part c.args.context.now c.args.place IsBooleanOrNull c.requires.stands) c.right_of-right_place.result c.right_of-right_place.ensures in
     omega (arith, behind, c.right_of-right_place.type_inv)
 
@@ -359,10 +389,22 @@ truth_walk::numbers_truth_at-walk_operand_at-requires g t c = record {
 }
 
 pub truth_walk::numbers_truth_at-returns-in-Err-clause-answers : goal.truth_walk::numbers_truth_at-returns-in-Err-clause-answers
-truth_walk::numbers_truth_at-returns-in-Err-clause-answers g t c = first_faults c.args.context.now c.args.place WalkClass.Eager c.in-Err.fault (λ leaf. cc) (walks_by c.args.context.now.list c.args.place (BinaryOperator.Comparison c.args.comparison) WalkClass.Eager c.requires.here refl) c.in-Err.ensures
+truth_walk::numbers_truth_at-returns-in-Err-clause-answers g t c =
+    by_stop (λ s. CountedNumber c.args.context.now (c.args.place + 1) (Err s)) (λ s. CountedTruth c.args.context.now c.args.place (Err s))
+    (λ fault. first_faults c.args.context.now c.args.place WalkClass.Eager fault (λ leaf. cc) (walks_by c.args.context.now.list c.args.place (BinaryOperator.Comparison c.args.comparison) WalkClass.Eager c.requires.here refl))
+    (λ is. tt) c.in-Err.stop c.in-Err.ensures.answers
 
 pub truth_walk::numbers_truth_at-number_at-requires-in-Numeric : goal.truth_walk::numbers_truth_at-number_at-requires-in-Numeric
 truth_walk::numbers_truth_at-number_at-requires-in-Numeric g t c =
+    let part = typed_part c.args.context.now c.args.place IsBooleanOrNull c.requires.stands in
+    let inside : c.args.place < length c.args.context.now.list.nodes = part_inside c.args.context.now c.args.place part in
+    let smaller : measure_at c.args.context.now.list.nodes (c.args.place + 1) rank_numbers < measure_at c.args.context.now.list.nodes c.args.place rank_numbers = omega arith in
+    let left : PartStands c.args.context.now (c.args.place + 1) =
+    tree_of_class c.args.context.now (c.args.place + 1) WalkClass.Numeric (λ leaf. cc) c.requires.numeric (first_part c.args.context.now c.args.place WalkClass.Eager (λ leaf. cc) (walks_by c.args.context.now.list c.args.place (BinaryOperator.Comparison c.args.comparison) WalkClass.Eager c.requires.here refl) part) in
+    search rules
+
+pub truth_walk::numbers_truth_at-number_at-requires-in-Numeric-2 : goal.truth_walk::numbers_truth_at-number_at-requires-in-Numeric-2
+truth_walk::numbers_truth_at-number_at-requires-in-Numeric-2 g t c =
     let part = typed_part c.args.context.now c.args.place IsBooleanOrNull c.requires.stands in
     let inside : c.args.place < length c.args.context.now.list.nodes = part_inside c.args.context.now c.args.place part in
     let behind : c.args.place < c.right_of-right_place.result = right_further c.args.context.now c.args.place (BinaryOperator.Comparison c.args.comparison) c.requires.here part c.right_of-right_place.result c.right_of-right_place.ensures in
@@ -372,7 +414,16 @@ truth_walk::numbers_truth_at-number_at-requires-in-Numeric g t c =
     search rules
 
 pub truth_walk::numbers_truth_at-returns-in-Err-number_at-clause-answers : goal.truth_walk::numbers_truth_at-returns-in-Err-number_at-clause-answers
-truth_walk::numbers_truth_at-returns-in-Err-number_at-clause-answers g t c = both_faults c.args.context.now c.args.place (BinaryOperator.Comparison c.args.comparison) c.requires.here c.right_of-right_place.result c.right_of-right_place.ensures (λ type. number_val c.in-Ok.left) c.in-Err-number_at.fault tt c.in-Ok.ensures c.in-Err-number_at.ensures
+truth_walk::numbers_truth_at-returns-in-Err-number_at-clause-answers g t c =
+    by_stop (λ s. CountedNumber c.args.context.now (c.args.place + 1) (Err s)) (λ s. CountedTruth c.args.context.now c.args.place (Err s))
+    (λ fault. first_faults c.args.context.now c.args.place WalkClass.Eager fault (λ leaf. cc) (walks_by c.args.context.now.list c.args.place (BinaryOperator.Comparison c.args.comparison) WalkClass.Eager c.requires.here refl))
+    (λ is. tt) c.in-Err-number_at.stop c.in-Err-number_at.ensures.answers
+
+pub truth_walk::numbers_truth_at-returns-in-Err-number_at-2-clause-answers : goal.truth_walk::numbers_truth_at-returns-in-Err-number_at-2-clause-answers
+truth_walk::numbers_truth_at-returns-in-Err-number_at-2-clause-answers g t c =
+    by_stop (λ s. CountedNumber c.args.context.now c.right_of-right_place.result (Err s)) (λ s. CountedTruth c.args.context.now c.args.place (Err s))
+    (λ fault. both_faults c.args.context.now c.args.place (BinaryOperator.Comparison c.args.comparison) c.requires.here c.right_of-right_place.result c.right_of-right_place.ensures (λ type. number_val c.in-Ok-number_at.left) fault tt c.in-Ok-number_at.ensures.answers)
+    (λ is. tt) c.in-Err-number_at-2.stop c.in-Err-number_at-2.ensures.answers
 
 pub truth_walk::logical_at-connected_at-requires : goal.truth_walk::logical_at-connected_at-requires
 truth_walk::logical_at-connected_at-requires g t c =
@@ -386,7 +437,7 @@ pub number_walk::numeric_at-calculated_at-requires : goal.number_walk::numeric_a
 number_walk::numeric_at-calculated_at-requires g t c =
     let operator = BinaryOperator.Arithmetic c.in-Some.operator in
     let here : HasOperator c.args.context.now.list c.args.place operator = there_found (λ (f : CheckedNode). f.kind ≡ NodeKind.Binary operator) (slice_get c.args.context.now.list.nodes c.args.place) c.node-node.result.now c.node-node.ensures c.in-Some.ensures.some in
-    let left : AnswersNumber c.args.context.now (c.args.place + 1) (Ok c.in-Ok.first) = subst (λ (r : Result (Option ℤ) EvalFault). AnswersNumber c.args.context.now (c.args.place + 1) r) c.in-Ok.is c.requires.first in
+    let left : AnswersNumber c.args.context.now (c.args.place + 1) (Ok c.in-Ok.first) = subst (λ (r : Result (Option ℤ) EvalStop). CountedNumber c.args.context.now (c.args.place + 1) r) c.in-Ok.is c.requires.first in
     let smaller : measure_at c.args.context.now.list.nodes c.args.place rank_rest < measure_at c.args.context.now.list.nodes c.args.place rank_step = omega arith in
     search rules
 
@@ -417,23 +468,52 @@ truth_walk::logical_at-returns-in-None-clause-answers g t c =
 
 pub number_walk::numeric_at-negated-requires : goal.number_walk::numeric_at-negated-requires
 number_walk::numeric_at-negated-requires g t c =
-    let first = subst (λ (r : Result (Option ℤ) EvalFault). AnswersNumber c.args.context.now (c.args.place + 1) r) c.in-Ok.is c.requires.first in
+    let first = subst (λ (r : Result (Option ℤ) EvalStop). CountedNumber c.args.context.now (c.args.place + 1) r) c.in-Ok.is c.requires.first in
     let walk = found_there (λ (f : CheckedNode). walk_of_kind f.kind ≡ WalkClass.Numeric) (slice_get c.args.context.now.list.nodes c.args.place) c.node-node.result.now c.node-node.ensures c.requires.numeric in
     let here = there_found (λ (f : CheckedNode). f.kind ≡ NodeKind.Neg) (slice_get c.args.context.now.list.nodes c.args.place) c.node-node.result.now c.node-node.ensures (only_neg c.node-node.result.now.kind walk c.in-None.ensures.none) in
     let promotes : Promotes = record { left = c.operands_lie_within_promotion.ensures.left; right = c.operands_lie_within_promotion.ensures.right; negation = c.operands_lie_within_promotion.ensures.negation; three = c.operands_lie_within_promotion.ensures.three } in
     negated_operand c.args.context.now c.args.place c.in-Ok.first c.node-node.result.now c.node-node.ensures here first c.ends_once.ensures promotes c.requires.stands
 
-pub number_walk::numeric_at-returns-in-None : goal.number_walk::numeric_at-returns-in-None
-number_walk::numeric_at-returns-in-None g t c =
-    let first = subst (λ (r : Result (Option ℤ) EvalFault). AnswersNumber c.args.context.now (c.args.place + 1) r) c.in-Ok.is c.requires.first in
+pub number_walk::numeric_at-returns-in-None-clause-answers : goal.number_walk::numeric_at-returns-in-None-clause-answers
+number_walk::numeric_at-returns-in-None-clause-answers g t c =
+    let first = subst (λ (r : Result (Option ℤ) EvalStop). CountedNumber c.args.context.now (c.args.place + 1) r) c.in-Ok.is c.requires.first in
     let walk = found_there (λ (f : CheckedNode). walk_of_kind f.kind ≡ WalkClass.Numeric) (slice_get c.args.context.now.list.nodes c.args.place) c.node-node.result.now c.node-node.ensures c.requires.numeric in
     let here = there_found (λ (f : CheckedNode). f.kind ≡ NodeKind.Neg) (slice_get c.args.context.now.list.nodes c.args.place) c.node-node.result.now c.node-node.ensures (only_neg c.node-node.result.now.kind walk c.in-None.ensures.none) in
-    negation_answers c.args.context.now c.args.place c.in-Ok.first c.node-node.result.now c.node-node.ensures here first c.negated.result c.trees_have_one_type.ensures c.negated.ensures
+    as_number c.args.context.now c.args.place c.negated.result c.number_stop.result c.number_stop.ensures
+    (negation_answers c.args.context.now c.args.place c.in-Ok.first c.node-node.result.now c.node-node.ensures here first c.negated.result c.trees_have_one_type.ensures c.negated.ensures)
+
+pub number_walk::numeric_at-returns-in-None-clause-spent : goal.number_walk::numeric_at-returns-in-None-clause-spent
+number_walk::numeric_at-returns-in-None-clause-spent g t c =
+    let walk = found_there (λ (f : CheckedNode). walk_of_kind f.kind ≡ WalkClass.Numeric) (slice_get c.args.context.now.list.nodes c.args.place) c.node-node.result.now c.node-node.ensures c.requires.numeric in
+    let here = there_found (λ (f : CheckedNode). f.kind ≡ NodeKind.Neg) (slice_get c.args.context.now.list.nodes c.args.place) c.node-node.result.now c.node-node.ensures (only_neg c.node-node.result.now.kind walk c.in-None.ensures.none) in
+    after_value (Option ℤ) c.args.context.now c.args.place c.args.first c.in-Ok.first (g.B.Counting.left c.args.budget.now) (g.B.Counting.left c.args.budget.now) (stopped_by c.number_stop.result) c.in-Ok.is
+    (nothing_more c.args.context.now c.args.place NodeKind.Neg tt here (g.B.Counting.left c.args.budget.now) (stopped_by c.number_stop.result) (number_spent c.negated.result c.number_stop.result (g.B.Counting.left c.args.budget.now) c.number_stop.ensures))
+
+pub number_walk::numeric_at-returns-in-Some-clause-spent : goal.number_walk::numeric_at-returns-in-Some-clause-spent
+number_walk::numeric_at-returns-in-Some-clause-spent g t c =
+    after_value (Option ℤ) c.args.context.now c.args.place c.args.first c.in-Ok.first (g.B.Counting.left c.args.budget.now) (g.B.Counting.left c.calculated_at.new.budget) (stopped_by c.calculated_at.result) c.in-Ok.is c.calculated_at.ensures.spent
 
 -- ---- chains of numbers
 
-pub number_walk::number_at-returns : goal.number_walk::number_at-returns
-number_walk::number_at-returns g t c = at_top (λ k. AnswersNumber c.args.context.now k c.loop-at.answer) c.loop-at.at c.args.place c.loop-at.invariant.above (omega arith) c.loop-at.invariant.answers
+pub number_walk::number_at-returns-clause-answers : goal.number_walk::number_at-returns-clause-answers
+number_walk::number_at-returns-clause-answers g t c =
+    at_top (λ k. CountedNumber c.args.context.now k c.loop-at.answer) c.loop-at.at c.args.place c.loop-at.invariant.above (omega arith) c.loop-at.invariant.answers
+
+pub number_walk::number_at-returns-clause-spent : goal.number_walk::number_at-returns-clause-spent
+number_walk::number_at-returns-clause-spent g t c =
+    at_top (λ k. SpendsAt c.args.context.now k (g.B.Counting.left c.args.budget.now) (g.B.Counting.left c.loop-at.budget) (stopped_by c.loop-at.answer)) c.loop-at.at c.args.place c.loop-at.invariant.above (omega arith) c.loop-at.invariant.spent
+
+pub number_walk::number_at-loop-at-preserved : goal.number_walk::number_at-loop-at-preserved
+number_walk::number_at-loop-at-preserved g t c =
+    let l = c.loop-at in
+    let above : c.args.place < l.at = omega arith in
+    let within : l.at ≤ c.spine_bottom-bottom.result = l.invariant.within in
+    record {
+      above = omega arith;
+      within = omega arith;
+      answers = c.numeric_at-answer.ensures.answers;
+      spent = c.numeric_at-answer.ensures.spent (g.B.Counting.left c.args.budget.now) (next_spent c.args.context.now l.at c.args.place (g.B.Counting.left c.args.budget.now) (g.B.Counting.left l.budget) (stopped_by l.answer) above l.invariant.spent);
+    }
 
 pub number_walk::number_at-number_operand_at-answer-requires : goal.number_walk::number_at-number_operand_at-answer-requires
 number_walk::number_at-number_operand_at-answer-requires g t c =
@@ -448,28 +528,32 @@ number_walk::number_at-numeric_at-answer-requires g t c =
     let l = c.loop-at in
     let above : c.args.place < l.at = omega arith in
     let smaller : measure_at c.args.context.now.list.nodes (l.at - 1) rank_step < measure_at c.args.context.now.list.nodes c.args.place rank_numbers = omega arith in
-    let up : StepUp c.args.context.now WalkClass.Numeric (λ k. AnswersNumber c.args.context.now k l.answer) l.at = step_up c.args.context.now WalkClass.Numeric (λ leaf. cc) (λ k. AnswersNumber c.args.context.now k l.answer) c.args.place l.at c.spine_bottom-bottom.result above l.invariant.within c.requires.stands c.spine_bottom-bottom.ensures.spine l.invariant.answers in
+    let up : StepUp c.args.context.now WalkClass.Numeric (λ k. CountedNumber c.args.context.now k l.answer) l.at = step_up c.args.context.now WalkClass.Numeric (λ leaf. cc) (λ k. CountedNumber c.args.context.now k l.answer) c.args.place l.at c.spine_bottom-bottom.result above l.invariant.within c.requires.stands c.spine_bottom-bottom.ensures.spine l.invariant.answers in
     search rules
 
 pub number_walk::number_operand_at-kept_number-requires : goal.number_walk::number_operand_at-kept_number-requires
 number_walk::number_operand_at-kept_number-requires g t c = value_kept c.args.context.now c.args.place c.in-Leaf.value.now c.in-Leaf.ensures.0 number_values c.ends_once.ensures c.requires.stands
 
-pub number_walk::number_operand_at-returns-in-Leaf : goal.number_walk::number_operand_at-returns-in-Leaf
-number_walk::number_operand_at-returns-in-Leaf g t c = kept_value c.args.context.now c.args.place c.in-Leaf.value.now c.in-Leaf.ensures.0 (number_val c.kept_number.result) c.kept_number.ensures
+pub number_walk::number_operand_at-returns-in-Leaf-clause-answers : goal.number_walk::number_operand_at-returns-in-Leaf-clause-answers
+number_walk::number_operand_at-returns-in-Leaf-clause-answers g t c = kept_value c.args.context.now c.args.place c.in-Leaf.value.now c.in-Leaf.ensures.0 (number_val c.kept_number.result) c.kept_number.ensures
 
-pub truth_walk::numbers_truth_at-returns-in-Int-clause-answers : goal.truth_walk::numbers_truth_at-returns-in-Int-clause-answers
-truth_walk::numbers_truth_at-returns-in-Int-clause-answers g t c =
+pub number_walk::number_operand_at-returns-in-Leaf-clause-spent : goal.number_walk::number_operand_at-returns-in-Leaf-clause-spent
+number_walk::number_operand_at-returns-in-Leaf-clause-spent g t c =
+    free_spends c.args.context.now c.args.place None (g.B.Counting.left c.args.budget.now) (leaf_free c.args.context.now c.args.place c.in-Leaf.ensures.1) (takes_nothing (g.B.Counting.left c.args.budget.now))
+
+pub truth_walk::numbers_truth_at-returns-in-Ok-clause-answers : goal.truth_walk::numbers_truth_at-returns-in-Ok-clause-answers
+truth_walk::numbers_truth_at-returns-in-Ok-clause-answers g t c =
     let here = c.requires.here in
     let right = kept_value c.args.context.now c.right_of-right_place.result c.in-Leaf.value.now c.in-Leaf.ensures.0 (number_val (Some c.in-Int.right)) (ap plain_val c.in-Int.is) in
     let fits : SFits w64 c.in-Int.right = search rules in
     let compared : IsTrue c.compare_numbers.result ↔ ComparesTrue c.args.comparison (number_val c.in-Ok.left) (number_val (Some c.in-Int.right)) =
     subst (λ (n : ℤ). IsTrue c.compare_numbers.result ↔ ComparesTrue c.args.comparison (number_val c.in-Ok.left) (number_val (Some n))) (to_z-of_z w64 c.in-Int.right fits) c.compare_numbers.ensures in
-    numbers_compared c.args.context.now c.args.place c.args.comparison here c.right_of-right_place.result c.right_of-right_place.ensures c.in-Ok.left (Some c.in-Int.right) c.compare_numbers.result c.in-Ok.ensures right compared
+    numbers_compared c.args.context.now c.args.place c.args.comparison here c.right_of-right_place.result c.right_of-right_place.ensures c.in-Ok.left (Some c.in-Int.right) c.compare_numbers.result c.in-Ok.ensures.answers right compared
 
-pub truth_walk::numbers_truth_at-returns-in-Ok-number_at-clause-answers : goal.truth_walk::numbers_truth_at-returns-in-Ok-number_at-clause-answers
-truth_walk::numbers_truth_at-returns-in-Ok-number_at-clause-answers g t c =
+pub truth_walk::numbers_truth_at-returns-in-Ok-number_at-2-clause-answers : goal.truth_walk::numbers_truth_at-returns-in-Ok-number_at-2-clause-answers
+truth_walk::numbers_truth_at-returns-in-Ok-number_at-2-clause-answers g t c =
     let here = c.requires.here in
-    numbers_compared c.args.context.now c.args.place c.args.comparison here c.right_of-right_place.result c.right_of-right_place.ensures c.in-Ok.left c.in-Ok-number_at.right c.compare_numbers-in-Ok-number_at.result c.in-Ok.ensures c.in-Ok-number_at.ensures c.compare_numbers-in-Ok-number_at.ensures
+    numbers_compared c.args.context.now c.args.place c.args.comparison here c.right_of-right_place.result c.right_of-right_place.ensures c.in-Ok-number_at.left c.in-Ok-number_at-2.right c.compare_numbers-in-Ok-number_at-2.result c.in-Ok-number_at.ensures.answers c.in-Ok-number_at-2.ensures.answers c.compare_numbers-in-Ok-number_at-2.ensures
 
 pub truth_walk::compared_truth_at-walk_operand_at-requires : goal.truth_walk::compared_truth_at-walk_operand_at-requires
 truth_walk::compared_truth_at-walk_operand_at-requires g t c = record {
@@ -532,23 +616,26 @@ datum_walk::called_at-called_on_one-requires g t c =
     (subst (λ (k : ℕ). AllAnswered c.args.context.now (c.args.place + 1) k c.stop_of-own_stop.result (c.args.first ∷ [])) c.if-second_place-own_stop.true
     (one_answered c.args.context.now c.calls_have_one_type.ensures.named c.args.place c.args.function c.requires.here c.stop_of-own_stop.result c.stop_of-own_stop.ensures c.requires.stands c.stop_of-second_place.result c.stop_of-second_place.ensures c.args.first c.requires.first)) c.requires.stands
 
-pub datum_walk::called_at-returns-then-second_place-own_stop : goal.datum_walk::called_at-returns-then-second_place-own_stop
-datum_walk::called_at-returns-then-second_place-own_stop g t c =
-    call_answers c.args.context.now c.calls_have_one_type.ensures.named c.args.place c.args.function c.requires.here c.stop_of-own_stop.result c.stop_of-own_stop.ensures c.ends_once.ensures (c.args.first ∷ [])
+pub datum_walk::called_at-returns-then-second_place-own_stop-clause-answers : goal.datum_walk::called_at-returns-then-second_place-own_stop-clause-answers
+datum_walk::called_at-returns-then-second_place-own_stop-clause-answers g t c =
+    as_counted c.args.context.now c.args.place c.called_on_one.result c.as_stop.result c.as_stop.ensures
+    (call_answers c.args.context.now c.calls_have_one_type.ensures.named c.args.place c.args.function c.requires.here c.stop_of-own_stop.result c.stop_of-own_stop.ensures c.ends_once.ensures (c.args.first ∷ [])
     (subst (λ (k : ℕ). AllAnswered c.args.context.now (c.args.place + 1) k c.stop_of-own_stop.result (c.args.first ∷ [])) c.if-second_place-own_stop.true
-    (one_answered c.args.context.now c.calls_have_one_type.ensures.named c.args.place c.args.function c.requires.here c.stop_of-own_stop.result c.stop_of-own_stop.ensures c.requires.stands c.stop_of-second_place.result c.stop_of-second_place.ensures c.args.first c.requires.first)) c.called_on_one.result (λ r s. c.called_on_one.ensures c.args.context.now.moment r s)
+    (one_answered c.args.context.now c.calls_have_one_type.ensures.named c.args.place c.args.function c.requires.here c.stop_of-own_stop.result c.stop_of-own_stop.ensures c.requires.stands c.stop_of-second_place.result c.stop_of-second_place.ensures c.args.first c.requires.first)) c.called_on_one.result (λ r s. c.called_on_one.ensures c.args.context.now.moment r s))
 
-pub datum_walk::called_at-operand_at-requires : goal.datum_walk::called_at-operand_at-requires
-datum_walk::called_at-operand_at-requires g t c =
+pub datum_walk::called_at-likely_stored_at-requires : goal.datum_walk::called_at-likely_stored_at-requires
+datum_walk::called_at-likely_stored_at-requires g t c =
     let inside : c.args.place < length c.args.context.now.list.nodes = part_inside c.args.context.now c.args.place c.requires.stands in
     let behind : c.args.place < c.stop_of-second_place.result = argument_behind c.args.context.now c.calls_have_one_type.ensures.named c.args.place c.args.function c.requires.here c.stop_of-own_stop.result c.stop_of-own_stop.ensures c.stop_of-second_place.result (c.args.first ∷ []) c.requires.stands (one_answered c.args.context.now c.calls_have_one_type.ensures.named c.args.place c.args.function c.requires.here c.stop_of-own_stop.result c.stop_of-own_stop.ensures c.requires.stands c.stop_of-second_place.result c.stop_of-second_place.ensures c.args.first c.requires.first) in
     let smaller : measure_at c.args.context.now.list.nodes c.stop_of-second_place.result rank_operand < measure_at c.args.context.now.list.nodes c.args.place rank_rest = omega arith in
     let stands : OperandStands c.args.context.now c.stop_of-second_place.result = tree_operand c.args.context.now c.stop_of-second_place.result (argument_stands c.args.context.now c.calls_have_one_type.ensures.named c.args.place c.args.function c.requires.here c.stop_of-own_stop.result c.stop_of-own_stop.ensures c.stop_of-second_place.result (c.args.first ∷ []) c.requires.stands (one_answered c.args.context.now c.calls_have_one_type.ensures.named c.args.place c.args.function c.requires.here c.stop_of-own_stop.result c.stop_of-own_stop.ensures c.requires.stands c.stop_of-second_place.result c.stop_of-second_place.ensures c.args.first c.requires.first) c.if-second_place-own_stop.false) in
     search rules
 
-pub datum_walk::called_at-returns-in-Err : goal.datum_walk::called_at-returns-in-Err
-datum_walk::called_at-returns-in-Err g t c =
-    argument_faults c.args.context.now c.calls_have_one_type.ensures.named c.args.place c.args.function c.requires.here c.stop_of-own_stop.result c.stop_of-own_stop.ensures c.stop_of-second_place.result (c.args.first ∷ []) c.in-Err.further (one_answered c.args.context.now c.calls_have_one_type.ensures.named c.args.place c.args.function c.requires.here c.stop_of-own_stop.result c.stop_of-own_stop.ensures c.requires.stands c.stop_of-second_place.result c.stop_of-second_place.ensures c.args.first c.requires.first) c.if-second_place-own_stop.false c.in-Err.ensures
+pub datum_walk::called_at-returns-in-Err-clause-answers : goal.datum_walk::called_at-returns-in-Err-clause-answers
+datum_walk::called_at-returns-in-Err-clause-answers g t c =
+    by_stop (λ s. CountedDatum c.args.context.now c.stop_of-second_place.result (Err s)) (λ s. CountedDatum c.args.context.now c.args.place (Err s))
+    (λ fault. argument_faults c.args.context.now c.calls_have_one_type.ensures.named c.args.place c.args.function c.requires.here c.stop_of-own_stop.result c.stop_of-own_stop.ensures c.stop_of-second_place.result (c.args.first ∷ []) fault (one_answered c.args.context.now c.calls_have_one_type.ensures.named c.args.place c.args.function c.requires.here c.stop_of-own_stop.result c.stop_of-own_stop.ensures c.requires.stands c.stop_of-second_place.result c.stop_of-second_place.ensures c.args.first c.requires.first) c.if-second_place-own_stop.false)
+    (λ is. tt) c.in-Err.further c.in-Err.ensures.answers
 
 pub datum_walk::called_at-stop_of-third_place-requires : goal.datum_walk::called_at-stop_of-third_place-requires
 datum_walk::called_at-stop_of-third_place-requires g t c =
@@ -558,35 +645,120 @@ pub datum_walk::called_at-called_on_two-requires : goal.datum_walk::called_at-ca
 datum_walk::called_at-called_on_two-requires g t c =
     call_applies c.args.context.now c.calls_have_one_type.ensures.named c.args.place c.args.function c.requires.here c.stop_of-own_stop.result c.stop_of-own_stop.ensures c.ends_once.ensures (c.args.first ∷ c.in-Ok.second ∷ [])
     (subst (λ (k : ℕ). AllAnswered c.args.context.now (c.args.place + 1) k c.stop_of-own_stop.result (c.args.first ∷ c.in-Ok.second ∷ [])) c.if-third_place-own_stop.true
-    (two_answered c.args.context.now c.calls_have_one_type.ensures.named c.args.place c.args.function c.requires.here c.stop_of-own_stop.result c.stop_of-own_stop.ensures c.requires.stands c.stop_of-second_place.result c.stop_of-second_place.ensures c.args.first c.requires.first c.if-second_place-own_stop.false c.stop_of-third_place.result c.stop_of-third_place.ensures c.in-Ok.second c.in-Ok.ensures)) c.requires.stands
+    (two_answered c.args.context.now c.calls_have_one_type.ensures.named c.args.place c.args.function c.requires.here c.stop_of-own_stop.result c.stop_of-own_stop.ensures c.requires.stands c.stop_of-second_place.result c.stop_of-second_place.ensures c.args.first c.requires.first c.if-second_place-own_stop.false c.stop_of-third_place.result c.stop_of-third_place.ensures c.in-Ok.second c.in-Ok.ensures.answers)) c.requires.stands
 
-pub datum_walk::called_at-returns-then-third_place-own_stop : goal.datum_walk::called_at-returns-then-third_place-own_stop
-datum_walk::called_at-returns-then-third_place-own_stop g t c =
-    call_answers c.args.context.now c.calls_have_one_type.ensures.named c.args.place c.args.function c.requires.here c.stop_of-own_stop.result c.stop_of-own_stop.ensures c.ends_once.ensures (c.args.first ∷ c.in-Ok.second ∷ [])
+pub datum_walk::called_at-returns-then-third_place-own_stop-clause-answers : goal.datum_walk::called_at-returns-then-third_place-own_stop-clause-answers
+datum_walk::called_at-returns-then-third_place-own_stop-clause-answers g t c =
+    as_counted c.args.context.now c.args.place c.called_on_two.result c.as_stop-then-third_place-own_stop.result c.as_stop-then-third_place-own_stop.ensures
+    (call_answers c.args.context.now c.calls_have_one_type.ensures.named c.args.place c.args.function c.requires.here c.stop_of-own_stop.result c.stop_of-own_stop.ensures c.ends_once.ensures (c.args.first ∷ c.in-Ok.second ∷ [])
     (subst (λ (k : ℕ). AllAnswered c.args.context.now (c.args.place + 1) k c.stop_of-own_stop.result (c.args.first ∷ c.in-Ok.second ∷ [])) c.if-third_place-own_stop.true
-    (two_answered c.args.context.now c.calls_have_one_type.ensures.named c.args.place c.args.function c.requires.here c.stop_of-own_stop.result c.stop_of-own_stop.ensures c.requires.stands c.stop_of-second_place.result c.stop_of-second_place.ensures c.args.first c.requires.first c.if-second_place-own_stop.false c.stop_of-third_place.result c.stop_of-third_place.ensures c.in-Ok.second c.in-Ok.ensures)) c.called_on_two.result (λ r s. c.called_on_two.ensures c.args.context.now.moment r s)
+    (two_answered c.args.context.now c.calls_have_one_type.ensures.named c.args.place c.args.function c.requires.here c.stop_of-own_stop.result c.stop_of-own_stop.ensures c.requires.stands c.stop_of-second_place.result c.stop_of-second_place.ensures c.args.first c.requires.first c.if-second_place-own_stop.false c.stop_of-third_place.result c.stop_of-third_place.ensures c.in-Ok.second c.in-Ok.ensures.answers)) c.called_on_two.result (λ r s. c.called_on_two.ensures c.args.context.now.moment r s))
 
-pub datum_walk::called_at-operand_at-requires-2 : goal.datum_walk::called_at-operand_at-requires-2
-datum_walk::called_at-operand_at-requires-2 g t c =
+pub datum_walk::called_at-likely_stored_at-requires-2 : goal.datum_walk::called_at-likely_stored_at-requires-2
+datum_walk::called_at-likely_stored_at-requires-2 g t c =
     let inside : c.args.place < length c.args.context.now.list.nodes = part_inside c.args.context.now c.args.place c.requires.stands in
-    let behind : c.args.place < c.stop_of-third_place.result = argument_behind c.args.context.now c.calls_have_one_type.ensures.named c.args.place c.args.function c.requires.here c.stop_of-own_stop.result c.stop_of-own_stop.ensures c.stop_of-third_place.result (c.args.first ∷ c.in-Ok.second ∷ []) c.requires.stands (two_answered c.args.context.now c.calls_have_one_type.ensures.named c.args.place c.args.function c.requires.here c.stop_of-own_stop.result c.stop_of-own_stop.ensures c.requires.stands c.stop_of-second_place.result c.stop_of-second_place.ensures c.args.first c.requires.first c.if-second_place-own_stop.false c.stop_of-third_place.result c.stop_of-third_place.ensures c.in-Ok.second c.in-Ok.ensures) in
+    let behind : c.args.place < c.stop_of-third_place.result = argument_behind c.args.context.now c.calls_have_one_type.ensures.named c.args.place c.args.function c.requires.here c.stop_of-own_stop.result c.stop_of-own_stop.ensures c.stop_of-third_place.result (c.args.first ∷ c.in-Ok.second ∷ []) c.requires.stands (two_answered c.args.context.now c.calls_have_one_type.ensures.named c.args.place c.args.function c.requires.here c.stop_of-own_stop.result c.stop_of-own_stop.ensures c.requires.stands c.stop_of-second_place.result c.stop_of-second_place.ensures c.args.first c.requires.first c.if-second_place-own_stop.false c.stop_of-third_place.result c.stop_of-third_place.ensures c.in-Ok.second c.in-Ok.ensures.answers) in
     let smaller : measure_at c.args.context.now.list.nodes c.stop_of-third_place.result rank_operand < measure_at c.args.context.now.list.nodes c.args.place rank_rest = omega arith in
-    let stands : OperandStands c.args.context.now c.stop_of-third_place.result = tree_operand c.args.context.now c.stop_of-third_place.result (argument_stands c.args.context.now c.calls_have_one_type.ensures.named c.args.place c.args.function c.requires.here c.stop_of-own_stop.result c.stop_of-own_stop.ensures c.stop_of-third_place.result (c.args.first ∷ c.in-Ok.second ∷ []) c.requires.stands (two_answered c.args.context.now c.calls_have_one_type.ensures.named c.args.place c.args.function c.requires.here c.stop_of-own_stop.result c.stop_of-own_stop.ensures c.requires.stands c.stop_of-second_place.result c.stop_of-second_place.ensures c.args.first c.requires.first c.if-second_place-own_stop.false c.stop_of-third_place.result c.stop_of-third_place.ensures c.in-Ok.second c.in-Ok.ensures) c.if-third_place-own_stop.false) in
+    let stands : OperandStands c.args.context.now c.stop_of-third_place.result = tree_operand c.args.context.now c.stop_of-third_place.result (argument_stands c.args.context.now c.calls_have_one_type.ensures.named c.args.place c.args.function c.requires.here c.stop_of-own_stop.result c.stop_of-own_stop.ensures c.stop_of-third_place.result (c.args.first ∷ c.in-Ok.second ∷ []) c.requires.stands (two_answered c.args.context.now c.calls_have_one_type.ensures.named c.args.place c.args.function c.requires.here c.stop_of-own_stop.result c.stop_of-own_stop.ensures c.requires.stands c.stop_of-second_place.result c.stop_of-second_place.ensures c.args.first c.requires.first c.if-second_place-own_stop.false c.stop_of-third_place.result c.stop_of-third_place.ensures c.in-Ok.second c.in-Ok.ensures.answers) c.if-third_place-own_stop.false) in
     search rules
 
 pub datum_walk::called_at-called_on_three-requires : goal.datum_walk::called_at-called_on_three-requires
 datum_walk::called_at-called_on_three-requires g t c =
-    call_applies c.args.context.now c.calls_have_one_type.ensures.named c.args.place c.args.function c.requires.here c.stop_of-own_stop.result c.stop_of-own_stop.ensures c.ends_once.ensures (c.args.first ∷ c.in-Ok.second ∷ c.in-Ok-operand_at.third ∷ [])
-    (three_answered c.args.context.now c.calls_have_one_type.ensures.named c.args.place c.args.function c.requires.here c.stop_of-own_stop.result c.stop_of-own_stop.ensures c.requires.stands c.stop_of-second_place.result c.stop_of-second_place.ensures c.args.first c.requires.first c.if-second_place-own_stop.false c.stop_of-third_place.result c.stop_of-third_place.ensures c.in-Ok.second c.in-Ok.ensures c.if-third_place-own_stop.false c.in-Ok-operand_at.third c.in-Ok-operand_at.ensures) c.requires.stands
+    call_applies c.args.context.now c.calls_have_one_type.ensures.named c.args.place c.args.function c.requires.here c.stop_of-own_stop.result c.stop_of-own_stop.ensures c.ends_once.ensures (c.args.first ∷ c.in-Ok.second ∷ c.in-Ok-likely_stored_at.third ∷ [])
+    (three_answered c.args.context.now c.calls_have_one_type.ensures.named c.args.place c.args.function c.requires.here c.stop_of-own_stop.result c.stop_of-own_stop.ensures c.requires.stands c.stop_of-second_place.result c.stop_of-second_place.ensures c.args.first c.requires.first c.if-second_place-own_stop.false c.stop_of-third_place.result c.stop_of-third_place.ensures c.in-Ok.second c.in-Ok.ensures.answers c.if-third_place-own_stop.false c.in-Ok-likely_stored_at.third c.in-Ok-likely_stored_at.ensures.answers) c.requires.stands
 
-pub datum_walk::called_at-returns-in-Ok-operand_at : goal.datum_walk::called_at-returns-in-Ok-operand_at
-datum_walk::called_at-returns-in-Ok-operand_at g t c =
-    call_answers c.args.context.now c.calls_have_one_type.ensures.named c.args.place c.args.function c.requires.here c.stop_of-own_stop.result c.stop_of-own_stop.ensures c.ends_once.ensures (c.args.first ∷ c.in-Ok.second ∷ c.in-Ok-operand_at.third ∷ [])
-    (three_answered c.args.context.now c.calls_have_one_type.ensures.named c.args.place c.args.function c.requires.here c.stop_of-own_stop.result c.stop_of-own_stop.ensures c.requires.stands c.stop_of-second_place.result c.stop_of-second_place.ensures c.args.first c.requires.first c.if-second_place-own_stop.false c.stop_of-third_place.result c.stop_of-third_place.ensures c.in-Ok.second c.in-Ok.ensures c.if-third_place-own_stop.false c.in-Ok-operand_at.third c.in-Ok-operand_at.ensures) c.called_on_three.result (λ r s. c.called_on_three.ensures c.args.context.now.moment r s)
+pub datum_walk::called_at-returns-in-Ok-likely_stored_at-clause-answers : goal.datum_walk::called_at-returns-in-Ok-likely_stored_at-clause-answers
+datum_walk::called_at-returns-in-Ok-likely_stored_at-clause-answers g t c =
+    as_counted c.args.context.now c.args.place c.called_on_three.result c.as_stop-in-Ok-likely_stored_at.result c.as_stop-in-Ok-likely_stored_at.ensures
+    (call_answers c.args.context.now c.calls_have_one_type.ensures.named c.args.place c.args.function c.requires.here c.stop_of-own_stop.result c.stop_of-own_stop.ensures c.ends_once.ensures (c.args.first ∷ c.in-Ok.second ∷ c.in-Ok-likely_stored_at.third ∷ [])
+    (three_answered c.args.context.now c.calls_have_one_type.ensures.named c.args.place c.args.function c.requires.here c.stop_of-own_stop.result c.stop_of-own_stop.ensures c.requires.stands c.stop_of-second_place.result c.stop_of-second_place.ensures c.args.first c.requires.first c.if-second_place-own_stop.false c.stop_of-third_place.result c.stop_of-third_place.ensures c.in-Ok.second c.in-Ok.ensures.answers c.if-third_place-own_stop.false c.in-Ok-likely_stored_at.third c.in-Ok-likely_stored_at.ensures.answers) c.called_on_three.result (λ r s. c.called_on_three.ensures c.args.context.now.moment r s))
 
-pub datum_walk::called_at-returns : goal.datum_walk::called_at-returns
-datum_walk::called_at-returns g t c =
-    argument_faults c.args.context.now c.calls_have_one_type.ensures.named c.args.place c.args.function c.requires.here c.stop_of-own_stop.result c.stop_of-own_stop.ensures c.stop_of-third_place.result (c.args.first ∷ c.in-Ok.second ∷ []) c.in-Err-operand_at.fault (two_answered c.args.context.now c.calls_have_one_type.ensures.named c.args.place c.args.function c.requires.here c.stop_of-own_stop.result c.stop_of-own_stop.ensures c.requires.stands c.stop_of-second_place.result c.stop_of-second_place.ensures c.args.first c.requires.first c.if-second_place-own_stop.false c.stop_of-third_place.result c.stop_of-third_place.ensures c.in-Ok.second c.in-Ok.ensures) c.if-third_place-own_stop.false c.in-Err-operand_at.ensures
+pub datum_walk::called_at-returns-clause-answers : goal.datum_walk::called_at-returns-clause-answers
+datum_walk::called_at-returns-clause-answers g t c =
+    by_stop (λ s. CountedDatum c.args.context.now c.stop_of-third_place.result (Err s)) (λ s. CountedDatum c.args.context.now c.args.place (Err s))
+    (λ fault. argument_faults c.args.context.now c.calls_have_one_type.ensures.named c.args.place c.args.function c.requires.here c.stop_of-own_stop.result c.stop_of-own_stop.ensures c.stop_of-third_place.result (c.args.first ∷ c.in-Ok.second ∷ []) fault (two_answered c.args.context.now c.calls_have_one_type.ensures.named c.args.place c.args.function c.requires.here c.stop_of-own_stop.result c.stop_of-own_stop.ensures c.requires.stands c.stop_of-second_place.result c.stop_of-second_place.ensures c.args.first c.requires.first c.if-second_place-own_stop.false c.stop_of-third_place.result c.stop_of-third_place.ensures c.in-Ok.second c.in-Ok.ensures.answers) c.if-third_place-own_stop.false)
+    (λ is. tt) c.in-Err-likely_stored_at.stop c.in-Err-likely_stored_at.ensures.answers
+
+-- the first argument, the first two, and three, with what each took of a budget
+one_walked : (context : ContextModel) → OneName → (place : ℕ) (function : Function) → HasCall context.list place function → (own : ℕ) → IsStopOf context.list place own → PartStands context place
+    → (second : ℕ) → IsStopOf context.list (place + 1) second → (first : Datum) → AnswersDatum context (place + 1) (Ok first) → (old now : Budget) → SpendsAt context (place + 1) old now None
+    → AllWalked context (place + 1) second own (first ∷ []) old now
+one_walked context names place function here own is_own part second is_second first answers old now spends =
+    (second, now, is_second, first_argument context names place function here own is_own part, answers, spends, (refl, refl))
+
+two_walked : (context : ContextModel) → OneName → (place : ℕ) (function : Function) → HasCall context.list place function → (own : ℕ) → IsStopOf context.list place own → PartStands context place
+    → (second : ℕ) → IsStopOf context.list (place + 1) second → (first : Datum) → AnswersDatum context (place + 1) (Ok first) → ¬ (second ≡ own) → (third : ℕ) → IsStopOf context.list second third
+    → (next : Datum) → AnswersDatum context second (Ok next) → (old mid now : Budget) → SpendsAt context (place + 1) old mid None → SpendsAt context second mid now None
+    → AllWalked context (place + 1) third own (first ∷ next ∷ []) old now
+two_walked context names place function here own is_own part second is_second first answers further third is_third next next_answers old mid now spends next_spends =
+    (second, mid, is_second, first_argument context names place function here own is_own part, answers, spends, (third, now, is_third, further, next_answers, next_spends, (refl, refl)))
+
+three_walked : (context : ContextModel) → OneName → (place : ℕ) (function : Function) → HasCall context.list place function → (own : ℕ) → IsStopOf context.list place own → PartStands context place
+    → (second : ℕ) → IsStopOf context.list (place + 1) second → (first : Datum) → AnswersDatum context (place + 1) (Ok first) → ¬ (second ≡ own) → (third : ℕ) → IsStopOf context.list second third
+    → (next : Datum) → AnswersDatum context second (Ok next) → ¬ (third ≡ own) → (last : Datum) → AnswersDatum context third (Ok last)
+    → (old mid later now : Budget) → SpendsAt context (place + 1) old mid None → SpendsAt context second mid later None → SpendsAt context third later now None
+    → AllWalked context (place + 1) own own (first ∷ next ∷ last ∷ []) old now
+three_walked context names place function here own is_own part second is_second first answers further third is_third next next_answers behind last last_answers old mid later now spends next_spends last_spends =
+    let two : AllAnswered context (place + 1) third own (first ∷ next ∷ []) = two_answered context names place function here own is_own part second is_second first answers further third is_third next next_answers in
+    let stops : IsStopOf context.list third own = third_is_last context names place function here own is_own third first next part two behind in (
+      second,
+      mid,
+      is_second,
+      first_argument context names place function here own is_own part,
+      answers,
+      spends,
+      (third, later, is_third, further, next_answers, next_spends, (own, now, stops, behind, last_answers, last_spends, (refl, refl))),
+    )
+
+pub datum_walk::called_at-returns-then-second_place-own_stop-clause-spent : goal.datum_walk::called_at-returns-then-second_place-own_stop-clause-spent
+datum_walk::called_at-returns-then-second_place-own_stop-clause-spent g t c = λ start spends.
+    call_spends c.args.context.now c.calls_have_one_type.ensures.named c.args.place c.args.function c.requires.here c.stop_of-own_stop.result c.stop_of-own_stop.ensures c.ends_once.ensures (c.args.first ∷ []) start (g.B.Counting.left c.args.budget.now) (g.B.Counting.left c.take.new.self) (datum_stop c.as_stop.result)
+    (subst (λ (k : ℕ). AllWalked c.args.context.now (c.args.place + 1) k c.stop_of-own_stop.result (c.args.first ∷ []) start (g.B.Counting.left c.args.budget.now)) c.if-second_place-own_stop.true
+    (one_walked c.args.context.now c.calls_have_one_type.ensures.named c.args.place c.args.function c.requires.here c.stop_of-own_stop.result c.stop_of-own_stop.ensures c.requires.stands c.stop_of-second_place.result c.stop_of-second_place.ensures c.args.first c.requires.first start (g.B.Counting.left c.args.budget.now) spends))
+    c.cost_of_one.result c.cost_of_one.ensures (as_paid c.called_on_one.result c.as_stop.result (g.B.Counting.left c.args.budget.now) (g.B.Counting.left c.take.new.self) c.cost_of_one.result c.as_stop.ensures (subst (λ (b : Bool). IsTaken b (g.B.Counting.left c.args.budget.now) (g.B.Counting.left c.take.new.self) c.cost_of_one.result) c.if-not-take.false c.take.ensures))
+
+pub datum_walk::called_at-returns-then-not-take-clause-spent : goal.datum_walk::called_at-returns-then-not-take-clause-spent
+datum_walk::called_at-returns-then-not-take-clause-spent g t c = λ start spends.
+    call_spends c.args.context.now c.calls_have_one_type.ensures.named c.args.place c.args.function c.requires.here c.stop_of-own_stop.result c.stop_of-own_stop.ensures c.ends_once.ensures (c.args.first ∷ []) start (g.B.Counting.left c.args.budget.now) (g.B.Counting.left c.take.new.self) (Some EvalStop.TooCostly)
+    (subst (λ (k : ℕ). AllWalked c.args.context.now (c.args.place + 1) k c.stop_of-own_stop.result (c.args.first ∷ []) start (g.B.Counting.left c.args.budget.now)) c.if-second_place-own_stop.true
+    (one_walked c.args.context.now c.calls_have_one_type.ensures.named c.args.place c.args.function c.requires.here c.stop_of-own_stop.result c.stop_of-own_stop.ensures c.requires.stands c.stop_of-second_place.result c.stop_of-second_place.ensures c.args.first c.requires.first start (g.B.Counting.left c.args.budget.now) spends))
+    c.cost_of_one.result c.cost_of_one.ensures (subst (λ (b : Bool). IsTaken b (g.B.Counting.left c.args.budget.now) (g.B.Counting.left c.take.new.self) c.cost_of_one.result) c.if-not-take.true c.take.ensures)
+
+pub datum_walk::called_at-returns-then-third_place-own_stop-clause-spent : goal.datum_walk::called_at-returns-then-third_place-own_stop-clause-spent
+datum_walk::called_at-returns-then-third_place-own_stop-clause-spent g t c = λ start spends.
+    call_spends c.args.context.now c.calls_have_one_type.ensures.named c.args.place c.args.function c.requires.here c.stop_of-own_stop.result c.stop_of-own_stop.ensures c.ends_once.ensures (c.args.first ∷ c.in-Ok.second ∷ []) start (g.B.Counting.left c.likely_stored_at.new.budget) (g.B.Counting.left c.take-then-third_place-own_stop.new.self) (datum_stop c.as_stop-then-third_place-own_stop.result)
+    (subst (λ (k : ℕ). AllWalked c.args.context.now (c.args.place + 1) k c.stop_of-own_stop.result (c.args.first ∷ c.in-Ok.second ∷ []) start (g.B.Counting.left c.likely_stored_at.new.budget)) c.if-third_place-own_stop.true
+    (two_walked c.args.context.now c.calls_have_one_type.ensures.named c.args.place c.args.function c.requires.here c.stop_of-own_stop.result c.stop_of-own_stop.ensures c.requires.stands c.stop_of-second_place.result c.stop_of-second_place.ensures c.args.first c.requires.first c.if-second_place-own_stop.false c.stop_of-third_place.result c.stop_of-third_place.ensures c.in-Ok.second c.in-Ok.ensures.answers start (g.B.Counting.left c.args.budget.now) (g.B.Counting.left c.likely_stored_at.new.budget) spends c.in-Ok.ensures.spent))
+    c.cost_of_two.result c.cost_of_two.ensures (as_paid c.called_on_two.result c.as_stop-then-third_place-own_stop.result (g.B.Counting.left c.likely_stored_at.new.budget) (g.B.Counting.left c.take-then-third_place-own_stop.new.self) c.cost_of_two.result c.as_stop-then-third_place-own_stop.ensures (subst (λ (b : Bool). IsTaken b (g.B.Counting.left c.likely_stored_at.new.budget) (g.B.Counting.left c.take-then-third_place-own_stop.new.self) c.cost_of_two.result) c.if-not-take-2.false c.take-then-third_place-own_stop.ensures))
+
+pub datum_walk::called_at-returns-then-not-take-2-clause-spent : goal.datum_walk::called_at-returns-then-not-take-2-clause-spent
+datum_walk::called_at-returns-then-not-take-2-clause-spent g t c = λ start spends.
+    call_spends c.args.context.now c.calls_have_one_type.ensures.named c.args.place c.args.function c.requires.here c.stop_of-own_stop.result c.stop_of-own_stop.ensures c.ends_once.ensures (c.args.first ∷ c.in-Ok.second ∷ []) start (g.B.Counting.left c.likely_stored_at.new.budget) (g.B.Counting.left c.take-then-third_place-own_stop.new.self) (Some EvalStop.TooCostly)
+    (subst (λ (k : ℕ). AllWalked c.args.context.now (c.args.place + 1) k c.stop_of-own_stop.result (c.args.first ∷ c.in-Ok.second ∷ []) start (g.B.Counting.left c.likely_stored_at.new.budget)) c.if-third_place-own_stop.true
+    (two_walked c.args.context.now c.calls_have_one_type.ensures.named c.args.place c.args.function c.requires.here c.stop_of-own_stop.result c.stop_of-own_stop.ensures c.requires.stands c.stop_of-second_place.result c.stop_of-second_place.ensures c.args.first c.requires.first c.if-second_place-own_stop.false c.stop_of-third_place.result c.stop_of-third_place.ensures c.in-Ok.second c.in-Ok.ensures.answers start (g.B.Counting.left c.args.budget.now) (g.B.Counting.left c.likely_stored_at.new.budget) spends c.in-Ok.ensures.spent))
+    c.cost_of_two.result c.cost_of_two.ensures (subst (λ (b : Bool). IsTaken b (g.B.Counting.left c.likely_stored_at.new.budget) (g.B.Counting.left c.take-then-third_place-own_stop.new.self) c.cost_of_two.result) c.if-not-take-2.true c.take-then-third_place-own_stop.ensures)
+
+pub datum_walk::called_at-returns-in-Ok-likely_stored_at-clause-spent : goal.datum_walk::called_at-returns-in-Ok-likely_stored_at-clause-spent
+datum_walk::called_at-returns-in-Ok-likely_stored_at-clause-spent g t c = λ start spends.
+    call_spends c.args.context.now c.calls_have_one_type.ensures.named c.args.place c.args.function c.requires.here c.stop_of-own_stop.result c.stop_of-own_stop.ensures c.ends_once.ensures (c.args.first ∷ c.in-Ok.second ∷ c.in-Ok-likely_stored_at.third ∷ []) start (g.B.Counting.left c.likely_stored_at-2.new.budget) (g.B.Counting.left c.take-in-Ok-likely_stored_at.new.self) (datum_stop c.as_stop-in-Ok-likely_stored_at.result)
+    (three_walked c.args.context.now c.calls_have_one_type.ensures.named c.args.place c.args.function c.requires.here c.stop_of-own_stop.result c.stop_of-own_stop.ensures c.requires.stands c.stop_of-second_place.result c.stop_of-second_place.ensures c.args.first c.requires.first c.if-second_place-own_stop.false c.stop_of-third_place.result c.stop_of-third_place.ensures c.in-Ok.second c.in-Ok.ensures.answers c.if-third_place-own_stop.false c.in-Ok-likely_stored_at.third c.in-Ok-likely_stored_at.ensures.answers start (g.B.Counting.left c.args.budget.now) (g.B.Counting.left c.likely_stored_at.new.budget) (g.B.Counting.left c.likely_stored_at-2.new.budget) spends c.in-Ok.ensures.spent c.in-Ok-likely_stored_at.ensures.spent)
+    c.cost_of_three.result (c.cost_of_three.ensures c.args.function) (as_paid c.called_on_three.result c.as_stop-in-Ok-likely_stored_at.result (g.B.Counting.left c.likely_stored_at-2.new.budget) (g.B.Counting.left c.take-in-Ok-likely_stored_at.new.self) c.cost_of_three.result c.as_stop-in-Ok-likely_stored_at.ensures (subst (λ (b : Bool). IsTaken b (g.B.Counting.left c.likely_stored_at-2.new.budget) (g.B.Counting.left c.take-in-Ok-likely_stored_at.new.self) c.cost_of_three.result) c.if-not-take-3.false c.take-in-Ok-likely_stored_at.ensures))
+
+pub datum_walk::called_at-returns-then-not-take-3-clause-spent : goal.datum_walk::called_at-returns-then-not-take-3-clause-spent
+datum_walk::called_at-returns-then-not-take-3-clause-spent g t c = λ start spends.
+    call_spends c.args.context.now c.calls_have_one_type.ensures.named c.args.place c.args.function c.requires.here c.stop_of-own_stop.result c.stop_of-own_stop.ensures c.ends_once.ensures (c.args.first ∷ c.in-Ok.second ∷ c.in-Ok-likely_stored_at.third ∷ []) start (g.B.Counting.left c.likely_stored_at-2.new.budget) (g.B.Counting.left c.take-in-Ok-likely_stored_at.new.self) (Some EvalStop.TooCostly)
+    (three_walked c.args.context.now c.calls_have_one_type.ensures.named c.args.place c.args.function c.requires.here c.stop_of-own_stop.result c.stop_of-own_stop.ensures c.requires.stands c.stop_of-second_place.result c.stop_of-second_place.ensures c.args.first c.requires.first c.if-second_place-own_stop.false c.stop_of-third_place.result c.stop_of-third_place.ensures c.in-Ok.second c.in-Ok.ensures.answers c.if-third_place-own_stop.false c.in-Ok-likely_stored_at.third c.in-Ok-likely_stored_at.ensures.answers start (g.B.Counting.left c.args.budget.now) (g.B.Counting.left c.likely_stored_at.new.budget) (g.B.Counting.left c.likely_stored_at-2.new.budget) spends c.in-Ok.ensures.spent c.in-Ok-likely_stored_at.ensures.spent)
+    c.cost_of_three.result (c.cost_of_three.ensures c.args.function) (subst (λ (b : Bool). IsTaken b (g.B.Counting.left c.likely_stored_at-2.new.budget) (g.B.Counting.left c.take-in-Ok-likely_stored_at.new.self) c.cost_of_three.result) c.if-not-take-3.true c.take-in-Ok-likely_stored_at.ensures)
+
+pub datum_walk::called_at-returns-in-Err-clause-spent : goal.datum_walk::called_at-returns-in-Err-clause-spent
+datum_walk::called_at-returns-in-Err-clause-spent g t c = λ start spends.
+    call_stops c.args.context.now c.calls_have_one_type.ensures.named c.args.place c.args.function c.requires.here c.stop_of-own_stop.result c.stop_of-own_stop.ensures c.ends_once.ensures c.stop_of-second_place.result (c.args.first ∷ []) start (g.B.Counting.left c.args.budget.now) (g.B.Counting.left c.likely_stored_at.new.budget) (one_walked c.args.context.now c.calls_have_one_type.ensures.named c.args.place c.args.function c.requires.here c.stop_of-own_stop.result c.stop_of-own_stop.ensures c.requires.stands c.stop_of-second_place.result c.stop_of-second_place.ensures c.args.first c.requires.first start (g.B.Counting.left c.args.budget.now) spends) c.if-second_place-own_stop.false c.in-Err.further
+    (datum_faults c.args.context.now c.stop_of-second_place.result c.in-Err.further c.in-Err.ensures.answers) c.in-Err.ensures.spent
+
+pub datum_walk::called_at-returns-clause-spent : goal.datum_walk::called_at-returns-clause-spent
+datum_walk::called_at-returns-clause-spent g t c = λ start spends.
+    call_stops c.args.context.now c.calls_have_one_type.ensures.named c.args.place c.args.function c.requires.here c.stop_of-own_stop.result c.stop_of-own_stop.ensures c.ends_once.ensures c.stop_of-third_place.result (c.args.first ∷ c.in-Ok.second ∷ []) start (g.B.Counting.left c.likely_stored_at.new.budget) (g.B.Counting.left c.likely_stored_at-2.new.budget) (two_walked c.args.context.now c.calls_have_one_type.ensures.named c.args.place c.args.function c.requires.here c.stop_of-own_stop.result c.stop_of-own_stop.ensures c.requires.stands c.stop_of-second_place.result c.stop_of-second_place.ensures c.args.first c.requires.first c.if-second_place-own_stop.false c.stop_of-third_place.result c.stop_of-third_place.ensures c.in-Ok.second c.in-Ok.ensures.answers start (g.B.Counting.left c.args.budget.now) (g.B.Counting.left c.likely_stored_at.new.budget) spends c.in-Ok.ensures.spent) c.if-third_place-own_stop.false c.in-Err-likely_stored_at.stop
+    (datum_faults c.args.context.now c.stop_of-third_place.result c.in-Err-likely_stored_at.stop c.in-Err-likely_stored_at.ensures.answers) c.in-Err-likely_stored_at.ensures.spent
 
 -- ---- a call of two stored values
 
@@ -618,7 +790,7 @@ truth_walk::called_truth_at-returns-in-Some-clause-answers g t c = c.in-Some.ens
 
 pub truth_walk::called_truth_at-returns-in-Some-clause-spent : goal.truth_walk::called_truth_at-returns-in-Some-clause-spent
 truth_walk::called_truth_at-returns-in-Some-clause-spent g t c =
-    free_spends c.args.context.now c.args.place None (g.B.Counting.left c.args.budget.now) (called_free c.args.context.now c.args.place c.args.function c.requires.here) (takes_nothing (g.B.Counting.left c.args.budget.now))
+    unbounded_spends c.args.context.now c.args.place (g.B.Counting.left c.args.budget.now) (c.is_counting.ensures c.if-not-is_counting.true c.args.budget.now)
 
 pub truth_walk::called_truth_at-stop_of-second_place-requires : goal.truth_walk::called_truth_at-stop_of-second_place-requires
 truth_walk::called_truth_at-stop_of-second_place-requires g t c = part_inside c.args.context.now (c.args.place + 1) (first_there c.args.context.now c.calls_have_one_type.ensures.named c.args.place c.args.function c.requires.here c.stop_of-own_stop.result c.stop_of-own_stop.ensures (typed_part c.args.context.now c.args.place IsBooleanOrNull c.requires.stands))
@@ -678,7 +850,7 @@ pub datum_walk::made_at-returns-in-Count-clause-answers : goal.datum_walk::made_
 datum_walk::made_at-returns-in-Count-clause-answers g t c =
     let first : AnswersDatum c.args.context.now (c.args.place + 1) (Ok c.in-Ok.first) = subst (λ (r : Result Datum EvalStop). CountedDatum c.args.context.now (c.args.place + 1) r) c.in-Ok.is c.requires.first in
     let here : HasKind c.args.context.now.list c.args.place NodeKind.Count = there_found (λ (f : CheckedNode). f.kind ≡ NodeKind.Count) (slice_get c.args.context.now.list.nodes c.args.place) c.node.result.now c.node.ensures c.in-Count.is in
-    as_counted c.args.context.now c.args.place c.count_of.result c.as_stop-in-Count.result c.as_stop-in-Count.ensures (base_answers c.args.context.now c.args.place CountGives (count_base c.args.context.now c.args.place here) c.in-Ok.first first c.count_of.result c.count_of.ensures)
+    as_counted c.args.context.now c.args.place c.count_of.result c.as_stop.result c.as_stop.ensures (base_answers c.args.context.now c.args.place CountGives (count_base c.args.context.now c.args.place here) c.in-Ok.first first c.count_of.result c.count_of.ensures)
 
 pub datum_walk::made_at-any_item_of-requires : goal.datum_walk::made_at-any_item_of-requires
 datum_walk::made_at-any_item_of-requires g t c =
@@ -716,8 +888,8 @@ datum_walk::made_at-listed_at-requires g t c =
 pub collection_walk::flags_at-right_of-requires : goal.collection_walk::flags_at-right_of-requires
 collection_walk::flags_at-right_of-requires g t c = next_there c.args.context.now c.args.place (TypedHere c.args.context.now) AreFlags HasGives (flags_sides c.args.context.now c.args.place c.requires.here) c.requires.stands
 
-pub collection_walk::flags_at-operand_at-requires : goal.collection_walk::flags_at-operand_at-requires
-collection_walk::flags_at-operand_at-requires g t c =
+pub collection_walk::flags_at-likely_stored_at-requires : goal.collection_walk::flags_at-likely_stored_at-requires
+collection_walk::flags_at-likely_stored_at-requires g t c =
     let inside : c.args.place < length c.args.context.now.list.nodes = part_inside c.args.context.now c.args.place c.requires.stands in
     let behind : c.args.place < c.right_of.result = next_further c.args.context.now c.args.place (TypedHere c.args.context.now) AreFlags HasGives (flags_sides c.args.context.now c.args.place c.requires.here) c.right_of.result c.right_of.ensures c.requires.stands in
     let smaller : measure_at c.args.context.now.list.nodes c.right_of.result rank_operand < measure_at c.args.context.now.list.nodes c.args.place rank_rest = omega arith in
@@ -726,24 +898,35 @@ collection_walk::flags_at-operand_at-requires g t c =
 
 pub collection_walk::flags_at-flags_of-requires : goal.collection_walk::flags_at-flags_of-requires
 collection_walk::flags_at-flags_of-requires g t c =
-    let there = some_sides c.args.context.now c.args.place (TypedHere c.args.context.now) AreFlags HasGives (flags_sides c.args.context.now c.args.place c.requires.here) c.right_of.result c.right_of.ensures c.args.left.now c.requires.left c.in-Ok.right c.in-Ok.ensures c.ends_once.ensures c.requires.stands in
+    let there = some_sides c.args.context.now c.args.place (TypedHere c.args.context.now) AreFlags HasGives (flags_sides c.args.context.now c.args.place c.requires.here) c.right_of.result c.right_of.ensures c.args.left.now c.requires.left c.in-Ok.right c.in-Ok.ensures.answers c.ends_once.ensures c.requires.stands in
     let are = flags_are (slots_of c.args.context.now.row.schema) there.0 there.1 c.args.left.now c.in-Ok.right there.2.0 there.2.1 there.2.2 in
     record { left = are.0; right = are.1 }
 
-pub collection_walk::flags_at-returns-in-Ok : goal.collection_walk::flags_at-returns-in-Ok
-collection_walk::flags_at-returns-in-Ok g t c =
+pub collection_walk::flags_at-returns-in-Ok-clause-answers : goal.collection_walk::flags_at-returns-in-Ok-clause-answers
+collection_walk::flags_at-returns-in-Ok-clause-answers g t c =
     let slots = slots_of c.args.context.now.row.schema in
-    sides_answer c.args.context.now c.args.place (TypedHere c.args.context.now) AreFlags HasGives (flags_sides c.args.context.now c.args.place c.requires.here) c.right_of.result c.right_of.ensures c.args.left.now c.requires.left c.in-Ok.right c.in-Ok.ensures c.ends_once.ensures c.flags_of.result
+    sides_answer c.args.context.now c.args.place (TypedHere c.args.context.now) AreFlags HasGives (flags_sides c.args.context.now c.args.place c.requires.here) c.right_of.result c.right_of.ensures c.args.left.now c.requires.left c.in-Ok.right c.in-Ok.ensures.answers c.ends_once.ensures c.flags_of.result
     (λ s t type are of_left of_right. c.flags_of.ensures (reading_at slots s) (reading_at slots t) (reading_at slots type))
 
-pub collection_walk::flags_at-returns-in-Err : goal.collection_walk::flags_at-returns-in-Err
-collection_walk::flags_at-returns-in-Err g t c = next_faults c.args.context.now c.args.place (TypedHere c.args.context.now) AreFlags HasGives (flags_sides c.args.context.now c.args.place c.requires.here) c.right_of.result c.right_of.ensures c.args.left.now c.requires.left c.in-Err.fault c.in-Err.ensures
+pub collection_walk::flags_at-returns-in-Err-clause-answers : goal.collection_walk::flags_at-returns-in-Err-clause-answers
+collection_walk::flags_at-returns-in-Err-clause-answers g t c =
+    by_stop (λ s. CountedDatum c.args.context.now c.right_of.result (Err s)) (λ s. CountedDatum c.args.context.now c.args.place (Err s))
+    (λ fault. next_faults c.args.context.now c.args.place (TypedHere c.args.context.now) AreFlags HasGives (flags_sides c.args.context.now c.args.place c.requires.here) c.right_of.result c.right_of.ensures c.args.left.now c.requires.left fault)
+    (λ is. tt) c.in-Err.stop c.in-Err.ensures.answers
+
+pub collection_walk::flags_at-returns-in-Err-clause-spent : goal.collection_walk::flags_at-returns-in-Err-clause-spent
+collection_walk::flags_at-returns-in-Err-clause-spent g t c =
+    flags_spend c.args.context.now c.args.place c.requires.here c.ends_once.ensures c.args.left.now c.requires.left c.right_of.result c.right_of.ensures (g.B.Counting.left c.args.budget.now) (g.B.Counting.left c.likely_stored_at.new.budget) (Some c.in-Err.stop) c.in-Err.ensures.spent
+
+pub collection_walk::flags_at-returns-in-Ok-clause-spent : goal.collection_walk::flags_at-returns-in-Ok-clause-spent
+collection_walk::flags_at-returns-in-Ok-clause-spent g t c =
+    flags_spend c.args.context.now c.args.place c.requires.here c.ends_once.ensures c.args.left.now c.requires.left c.right_of.result c.right_of.ensures (g.B.Counting.left c.args.budget.now) (g.B.Counting.left c.likely_stored_at.new.budget) None c.in-Ok.ensures.spent
 
 pub collection_walk::among_at-right_of-requires : goal.collection_walk::among_at-right_of-requires
 collection_walk::among_at-right_of-requires g t c = next_there c.args.context.now c.args.place NoOperand IsComparableWithMembers InGives (path_sides c.args.context.now c.args.place c.requires.here) c.requires.stands
 
-pub collection_walk::among_at-operand_at-requires : goal.collection_walk::among_at-operand_at-requires
-collection_walk::among_at-operand_at-requires g t c =
+pub collection_walk::among_at-likely_stored_at-requires : goal.collection_walk::among_at-likely_stored_at-requires
+collection_walk::among_at-likely_stored_at-requires g t c =
     let inside : c.args.place < length c.args.context.now.list.nodes = part_inside c.args.context.now c.args.place c.requires.stands in
     let behind : c.args.place < c.right_of.result = next_further c.args.context.now c.args.place NoOperand IsComparableWithMembers InGives (path_sides c.args.context.now c.args.place c.requires.here) c.right_of.result c.right_of.ensures c.requires.stands in
     let smaller : measure_at c.args.context.now.list.nodes c.right_of.result rank_operand < measure_at c.args.context.now.list.nodes c.args.place rank_rest = omega arith in
@@ -753,13 +936,13 @@ collection_walk::among_at-operand_at-requires g t c =
 pub collection_walk::among_at-among-found-requires : goal.collection_walk::among_at-among-found-requires
 collection_walk::among_at-among-found-requires g t c =
     let slots = slots_of c.args.context.now.row.schema in
-    let there = some_sides c.args.context.now c.args.place NoOperand IsComparableWithMembers InGives (path_sides c.args.context.now c.args.place c.requires.here) c.right_of.result c.right_of.ensures c.args.left.now c.requires.left c.in-Ok.path c.in-Ok.ensures c.ends_once.ensures c.requires.stands in
+    let there = some_sides c.args.context.now c.args.place NoOperand IsComparableWithMembers InGives (path_sides c.args.context.now c.args.place c.requires.here) c.right_of.result c.right_of.ensures c.args.left.now c.requires.left c.in-Ok.path c.in-Ok.ensures.answers c.ends_once.ensures c.requires.stands in
     some_compared slots there.0 there.1 c.args.left.now c.in-Ok.path there.2.0 there.2.1 there.2.2
 
 pub collection_walk::among_at-returns-else-not-take_compared-clause-answers : goal.collection_walk::among_at-returns-else-not-take_compared-clause-answers
 collection_walk::among_at-returns-else-not-take_compared-clause-answers g t c =
     let slots = slots_of c.args.context.now.row.schema in
-    sides_answer c.args.context.now c.args.place NoOperand IsComparableWithMembers InGives (path_sides c.args.context.now c.args.place c.requires.here) c.right_of.result c.right_of.ensures c.args.left.now c.requires.left c.in-Ok.path c.in-Ok.ensures c.ends_once.ensures c.datum_of_truth.result
+    sides_answer c.args.context.now c.args.place NoOperand IsComparableWithMembers InGives (path_sides c.args.context.now c.args.place c.requires.here) c.right_of.result c.right_of.ensures c.args.left.now c.requires.left c.in-Ok.path c.in-Ok.ensures.answers c.ends_once.ensures c.datum_of_truth.result
     (λ s t type alike of_left of_path. path_gives slots s t c.args.left.now c.in-Ok.path (gives (datum_val (reading_at slots type) c.datum_of_truth.result)) alike of_left of_path
     (λ member may.
     subst (λ (v : Val). InGives (datum_val (reading_at slots s) c.args.left.now) (datum_val (reading_at slots (collection member)) c.in-Ok.path) (gives v)) (sym (c.datum_of_truth.ensures (reading_at slots type)))
@@ -767,20 +950,23 @@ collection_walk::among_at-returns-else-not-take_compared-clause-answers g t c =
 
 pub collection_walk::among_at-returns-else-not-take_compared-clause-spent : goal.collection_walk::among_at-returns-else-not-take_compared-clause-spent
 collection_walk::among_at-returns-else-not-take_compared-clause-spent g t c =
-    path_spends c.args.context.now c.args.place c.requires.here c.ends_once.ensures c.right_of.result c.right_of.ensures c.args.left.now c.requires.left c.in-Ok.path c.in-Ok.ensures c.among-found.result.compared c.among-found.ensures.compared (g.B.Counting.left c.args.budget.now) (g.B.Counting.left c.take_compared.new.budget) None
-    (subst (λ (b : Bool). IsTaken b (g.B.Counting.left c.args.budget.now) (g.B.Counting.left c.take_compared.new.budget) (compared_cost (environment_of c.args.context.now) c.among-found.result.compared)) c.if-not-take_compared.false c.take_compared.ensures)
+    path_spends c.args.context.now c.args.place c.requires.here c.ends_once.ensures c.right_of.result c.right_of.ensures c.args.left.now c.requires.left c.in-Ok.path c.in-Ok.ensures.answers c.among-found.result.compared c.among-found.ensures.compared (g.B.Counting.left c.args.budget.now) (g.B.Counting.left c.likely_stored_at.new.budget) (g.B.Counting.left c.take_compared.new.budget) None c.in-Ok.ensures.spent
+    (subst (λ (b : Bool). IsTaken b (g.B.Counting.left c.likely_stored_at.new.budget) (g.B.Counting.left c.take_compared.new.budget) (path_due (item_cost (environment_of c.args.context.now)) c.args.left.now c.in-Ok.path c.among-found.result.compared)) c.if-not-take_compared.false c.take_compared.ensures)
 
 pub collection_walk::among_at-returns-then-not-take_compared-clause-spent : goal.collection_walk::among_at-returns-then-not-take_compared-clause-spent
 collection_walk::among_at-returns-then-not-take_compared-clause-spent g t c =
-    path_spends c.args.context.now c.args.place c.requires.here c.ends_once.ensures c.right_of.result c.right_of.ensures c.args.left.now c.requires.left c.in-Ok.path c.in-Ok.ensures c.among-found.result.compared c.among-found.ensures.compared (g.B.Counting.left c.args.budget.now) (g.B.Counting.left c.take_compared.new.budget) (Some EvalStop.TooCostly)
-    (subst (λ (b : Bool). IsTaken b (g.B.Counting.left c.args.budget.now) (g.B.Counting.left c.take_compared.new.budget) (compared_cost (environment_of c.args.context.now) c.among-found.result.compared)) c.if-not-take_compared.true c.take_compared.ensures)
+    path_spends c.args.context.now c.args.place c.requires.here c.ends_once.ensures c.right_of.result c.right_of.ensures c.args.left.now c.requires.left c.in-Ok.path c.in-Ok.ensures.answers c.among-found.result.compared c.among-found.ensures.compared (g.B.Counting.left c.args.budget.now) (g.B.Counting.left c.likely_stored_at.new.budget) (g.B.Counting.left c.take_compared.new.budget) (Some EvalStop.TooCostly) c.in-Ok.ensures.spent
+    (subst (λ (b : Bool). IsTaken b (g.B.Counting.left c.likely_stored_at.new.budget) (g.B.Counting.left c.take_compared.new.budget) (path_due (item_cost (environment_of c.args.context.now)) c.args.left.now c.in-Ok.path c.among-found.result.compared)) c.if-not-take_compared.true c.take_compared.ensures)
 
 pub collection_walk::among_at-returns-in-Err-clause-answers : goal.collection_walk::among_at-returns-in-Err-clause-answers
-collection_walk::among_at-returns-in-Err-clause-answers g t c = next_faults c.args.context.now c.args.place NoOperand IsComparableWithMembers InGives (path_sides c.args.context.now c.args.place c.requires.here) c.right_of.result c.right_of.ensures c.args.left.now c.requires.left c.in-Err.fault c.in-Err.ensures
+collection_walk::among_at-returns-in-Err-clause-answers g t c =
+    by_stop (λ s. CountedDatum c.args.context.now c.right_of.result (Err s)) (λ s. CountedDatum c.args.context.now c.args.place (Err s))
+    (λ fault. next_faults c.args.context.now c.args.place NoOperand IsComparableWithMembers InGives (path_sides c.args.context.now c.args.place c.requires.here) c.right_of.result c.right_of.ensures c.args.left.now c.requires.left fault)
+    (λ is. tt) c.in-Err.stop c.in-Err.ensures.answers
 
 pub collection_walk::among_at-returns-in-Err-clause-spent : goal.collection_walk::among_at-returns-in-Err-clause-spent
 collection_walk::among_at-returns-in-Err-clause-spent g t c =
-    path_faults c.args.context.now c.args.place c.requires.here c.ends_once.ensures c.right_of.result c.right_of.ensures c.args.left.now c.requires.left c.in-Err.fault c.in-Err.ensures (g.B.Counting.left c.args.budget.now)
+    path_stops c.args.context.now c.args.place c.requires.here c.ends_once.ensures c.right_of.result c.right_of.ensures c.args.left.now c.requires.left c.in-Err.stop (datum_faults c.args.context.now c.right_of.result c.in-Err.stop c.in-Err.ensures.answers) (g.B.Counting.left c.args.budget.now) (g.B.Counting.left c.likely_stored_at.new.budget) c.in-Err.ensures.spent
 
 pub collection_walk::listed_at-stop_of-own_stop-requires : goal.collection_walk::listed_at-stop_of-own_stop-requires
 collection_walk::listed_at-stop_of-own_stop-requires g t c = part_inside c.args.context.now c.args.place c.requires.stands
@@ -817,8 +1003,9 @@ pub collection_walk::listed_at-stop_of-at-requires : goal.collection_walk::liste
 collection_walk::listed_at-stop_of-at-requires g t c = operand_inside c.args.context.now c.loop-at.at (next_item c.args.context.now c.args.place c.stop_of-own_stop.result c.loop-at.at (Takes (g.B.Counting.left c.args.budget.now) (g.B.Counting.left c.loop-at.budget)) c.args.left.now c.loop-at.invariant c.requires.stands c.loop-at-test.true)
 
 pub collection_walk::listed_at-loop-at-preserved : goal.collection_walk::listed_at-loop-at-preserved
-collection_walk::listed_at-loop-at-preserved g t c = item_differs c.args.context.now c.args.place c.stop_of-own_stop.result c.loop-at.at (Takes (g.B.Counting.left c.args.budget.now) (g.B.Counting.left c.loop-at.budget)) c.args.left.now c.loop-at.invariant c.trees_have_one_type.ensures c.in-Ok.item c.in-Ok.ensures.answers c.loop-at-test.true c.ends_once.ensures c.compare.result c.compare.ensures c.if-compare.false c.requires.stands c.stop_of-at.result c.stop_of-at.ensures
-    (Takes (g.B.Counting.left c.args.budget.now) (g.B.Counting.left c.likely_stored_at.new.budget)) (item_pays c.args.context.now c.args.place c.stop_of-own_stop.result c.loop-at.at c.args.left.now (g.B.Counting.left c.args.budget.now) (g.B.Counting.left c.loop-at.budget) c.loop-at.invariant (g.B.Counting.left c.take_item.new.budget) (g.B.Counting.left c.likely_stored_at.new.budget) (subst (λ (b : Bool). IsTaken b (g.B.Counting.left c.loop-at.budget) (g.B.Counting.left c.take_item.new.budget) (item_cost (environment_of c.args.context.now))) c.if-not-take_item.false c.take_item.ensures) c.in-Ok.ensures.spent)
+collection_walk::listed_at-loop-at-preserved g t c =
+    item_differs c.args.context.now c.args.place c.stop_of-own_stop.result c.loop-at.at (Takes (g.B.Counting.left c.args.budget.now) (g.B.Counting.left c.loop-at.budget)) c.args.left.now c.loop-at.invariant c.trees_have_one_type.ensures c.in-Ok.item c.in-Ok.ensures.answers c.loop-at-test.true c.ends_once.ensures c.compare.result c.compare.ensures c.if-compare.false c.requires.stands c.stop_of-at.result c.stop_of-at.ensures c.comparison_cost.result c.comparison_cost.ensures
+    (Takes (g.B.Counting.left c.args.budget.now) (g.B.Counting.left c.take.new.self)) (item_pays c.args.context.now c.args.place c.stop_of-own_stop.result c.loop-at.at c.args.left.now (g.B.Counting.left c.args.budget.now) (g.B.Counting.left c.loop-at.budget) c.loop-at.invariant (g.B.Counting.left c.take_item.new.budget) (g.B.Counting.left c.likely_stored_at.new.budget) (subst (λ (b : Bool). IsTaken b (g.B.Counting.left c.loop-at.budget) (g.B.Counting.left c.take_item.new.budget) (item_cost (environment_of c.args.context.now))) c.if-not-take_item.false c.take_item.ensures) (g.B.Counting.left c.take.new.self) c.comparison_cost.result (subst (λ (b : Bool). IsTaken b (g.B.Counting.left c.likely_stored_at.new.budget) (g.B.Counting.left c.take.new.self) c.comparison_cost.result) c.if-not-take.false c.take.ensures) c.in-Ok.ensures.spent)
 
 pub collection_walk::listed_at-loop-at-smaller : goal.collection_walk::listed_at-loop-at-smaller
 collection_walk::listed_at-loop-at-smaller g t c =
@@ -924,10 +1111,6 @@ lambda_walk::members_at-returns-clause-answers g t c = all_undecided c.args.cont
 
 -- ---- what search does not find any more with so many kinds
 
-pub datum_walk::compared_at-walk_operand_at-requires : goal.datum_walk::compared_at-walk_operand_at-requires
-datum_walk::compared_at-walk_operand_at-requires g t c =
-    record { stands = right_part c.args.context.now c.args.place (BinaryOperator.Comparison c.args.comparison) c.requires.here c.requires.stands c.right_of-right_place.result c.right_of-right_place.ensures }
-
 pub datum_walk::counted_at-truth_at-requires : goal.datum_walk::counted_at-truth_at-requires
 datum_walk::counted_at-truth_at-requires g t c =
     let stands : TruthStands c.args.context.now c.args.place = logical_stands c.args.context.now c.args.place c.in-Logical.ensures (tree_of_class c.args.context.now c.args.place WalkClass.Logical (λ leaf. cc) c.in-Logical.ensures c.requires.stands) in
@@ -951,18 +1134,6 @@ truth_walk::plain_truth_at-walk_operand_at-requires g t c = record { stands = tr
 
 pub number_walk::number_operand_at-walk_operand_at-requires : goal.number_walk::number_operand_at-walk_operand_at-requires
 number_walk::number_operand_at-walk_operand_at-requires g t c = record { stands = tree_operand c.args.context.now c.args.place (typed_part c.args.context.now c.args.place IsNumberOperand c.requires.stands) }
-
-pub number_walk::made_number_at-operand_at-requires : goal.number_walk::made_number_at-operand_at-requires
-number_walk::made_number_at-operand_at-requires g t c =
-    let stands : OperandStands c.args.context.now c.args.place = tree_operand c.args.context.now c.args.place (typed_part c.args.context.now c.args.place IsNumberOperand c.requires.stands) in
-    let smaller : measure_at c.args.context.now.list.nodes c.args.place rank_operand < measure_at c.args.context.now.list.nodes c.args.place rank_made_number = omega arith in
-    search rules
-
-pub datum_walk::made_at-returns-in-Call-clause-answers : goal.datum_walk::made_at-returns-in-Call-clause-answers
-datum_walk::made_at-returns-in-Call-clause-answers g t c = as_counted c.args.context.now c.args.place c.called_at.result c.as_stop.result c.as_stop.ensures c.called_at.ensures
-
-pub datum_walk::made_at-returns-in-Has-clause-answers : goal.datum_walk::made_at-returns-in-Has-clause-answers
-datum_walk::made_at-returns-in-Has-clause-answers g t c = as_counted c.args.context.now c.args.place c.flags_at.result c.as_stop-in-Has.result c.as_stop-in-Has.ensures c.flags_at.ensures
 
 -- ---- what is taken from the budget
 
@@ -1002,50 +1173,79 @@ pub truth_walk::plain_truth_at-returns-in-Leaf-clause-spent : goal.truth_walk::p
 truth_walk::plain_truth_at-returns-in-Leaf-clause-spent g t c =
     free_spends c.args.context.now c.args.place None (g.B.Counting.left c.args.budget.now) (leaf_free c.args.context.now c.args.place c.in-Leaf.ensures.1) (takes_nothing (g.B.Counting.left c.args.budget.now))
 
-pub truth_walk::numeric_truth_at-returns-in-Ok-clause-spent : goal.truth_walk::numeric_truth_at-returns-in-Ok-clause-spent
-truth_walk::numeric_truth_at-returns-in-Ok-clause-spent g t c =
-    free_spends c.args.context.now c.args.place None (g.B.Counting.left c.args.budget.now) (numeric_free c.args.context.now c.args.place c.requires.numeric) (takes_nothing (g.B.Counting.left c.args.budget.now))
+pub truth_walk::compared_truth_at-returns-else-not-take-clause-spent : goal.truth_walk::compared_truth_at-returns-else-not-take-clause-spent
+truth_walk::compared_truth_at-returns-else-not-take-clause-spent g t c =
+    both_spend c.args.context.now c.args.place (BinaryOperator.Comparison c.args.comparison) c.requires.here tt c.ends_once.ensures (λ type. val_of c.in-Leaf.left.now (slots_of c.args.context.now.row.schema).properties type) c.in-Leaf.ensures.0 c.right_of-right_place.result c.right_of-right_place.ensures (λ type. val_of c.in-Leaf-walk_operand_at.right.now (slots_of c.args.context.now.row.schema).properties type) c.in-Leaf-walk_operand_at.ensures.0 c.stored_cost.result
+    (λ s t. at_types (λ l r. comparison_cost l r ≡ c.stored_cost.result) (slots_of c.args.context.now.row.schema) s t c.in-Leaf.left.now c.in-Leaf-walk_operand_at.right.now (λ q m. sym (c.stored_cost.ensures q m)))
+    (g.B.Counting.left c.args.budget.now) (g.B.Counting.left c.args.budget.now) (g.B.Counting.left c.take.new.self) None (free_spends c.args.context.now c.right_of-right_place.result None (g.B.Counting.left c.args.budget.now) (leaf_free c.args.context.now c.right_of-right_place.result c.in-Leaf-walk_operand_at.ensures.1) (takes_nothing (g.B.Counting.left c.args.budget.now)))
+    (subst (λ (b : Bool). IsTaken b (g.B.Counting.left c.args.budget.now) (g.B.Counting.left c.take.new.self) c.stored_cost.result) c.if-not-take.false c.take.ensures)
+    (g.B.Counting.left c.args.budget.now) (free_spends c.args.context.now (c.args.place + 1) None (g.B.Counting.left c.args.budget.now) (leaf_free c.args.context.now (c.args.place + 1) c.in-Leaf.ensures.1) (takes_nothing (g.B.Counting.left c.args.budget.now)))
 
-pub truth_walk::numeric_truth_at-returns-in-Err-clause-spent : goal.truth_walk::numeric_truth_at-returns-in-Err-clause-spent
-truth_walk::numeric_truth_at-returns-in-Err-clause-spent g t c =
-    free_spends c.args.context.now c.args.place (Some (EvalStop.Fault c.in-Err.fault)) (g.B.Counting.left c.args.budget.now) (numeric_free c.args.context.now c.args.place c.requires.numeric) (fault_nothing c.in-Err.fault (g.B.Counting.left c.args.budget.now))
-
-pub truth_walk::compared_truth_at-returns-in-Leaf-walk_operand_at-clause-spent : goal.truth_walk::compared_truth_at-returns-in-Leaf-walk_operand_at-clause-spent
-truth_walk::compared_truth_at-returns-in-Leaf-walk_operand_at-clause-spent g t c =
-    free_spends c.args.context.now c.args.place None (g.B.Counting.left c.args.budget.now)
-    (both_free c.args.context.now c.args.place (BinaryOperator.Comparison c.args.comparison) c.requires.here c.right_of-right_place.result c.right_of-right_place.ensures (leaf_free c.args.context.now (c.args.place + 1) c.in-Leaf.ensures.1) (leaf_free c.args.context.now c.right_of-right_place.result c.in-Leaf-walk_operand_at.ensures.1))
-    (takes_nothing (g.B.Counting.left c.args.budget.now))
+pub truth_walk::compared_truth_at-returns-then-not-take-clause-spent : goal.truth_walk::compared_truth_at-returns-then-not-take-clause-spent
+truth_walk::compared_truth_at-returns-then-not-take-clause-spent g t c =
+    both_spend c.args.context.now c.args.place (BinaryOperator.Comparison c.args.comparison) c.requires.here tt c.ends_once.ensures (λ type. val_of c.in-Leaf.left.now (slots_of c.args.context.now.row.schema).properties type) c.in-Leaf.ensures.0 c.right_of-right_place.result c.right_of-right_place.ensures (λ type. val_of c.in-Leaf-walk_operand_at.right.now (slots_of c.args.context.now.row.schema).properties type) c.in-Leaf-walk_operand_at.ensures.0 c.stored_cost.result
+    (λ s t. at_types (λ l r. comparison_cost l r ≡ c.stored_cost.result) (slots_of c.args.context.now.row.schema) s t c.in-Leaf.left.now c.in-Leaf-walk_operand_at.right.now (λ q m. sym (c.stored_cost.ensures q m)))
+    (g.B.Counting.left c.args.budget.now) (g.B.Counting.left c.args.budget.now) (g.B.Counting.left c.take.new.self) (Some EvalStop.TooCostly) (free_spends c.args.context.now c.right_of-right_place.result None (g.B.Counting.left c.args.budget.now) (leaf_free c.args.context.now c.right_of-right_place.result c.in-Leaf-walk_operand_at.ensures.1) (takes_nothing (g.B.Counting.left c.args.budget.now)))
+    (subst (λ (b : Bool). IsTaken b (g.B.Counting.left c.args.budget.now) (g.B.Counting.left c.take.new.self) c.stored_cost.result) c.if-not-take.true c.take.ensures)
+    (g.B.Counting.left c.args.budget.now) (free_spends c.args.context.now (c.args.place + 1) None (g.B.Counting.left c.args.budget.now) (leaf_free c.args.context.now (c.args.place + 1) c.in-Leaf.ensures.1) (takes_nothing (g.B.Counting.left c.args.budget.now)))
 
 pub truth_walk::numbers_truth_at-returns-in-Err-clause-spent : goal.truth_walk::numbers_truth_at-returns-in-Err-clause-spent
 truth_walk::numbers_truth_at-returns-in-Err-clause-spent g t c =
-    first_stops c.args.context.now c.ends_once.ensures c.args.place WalkClass.Eager (λ leaf. cc) (walks_by c.args.context.now.list c.args.place (BinaryOperator.Comparison c.args.comparison) WalkClass.Eager c.requires.here refl) (EvalStop.Fault c.in-Err.fault) c.in-Err.ensures (g.B.Counting.left c.args.budget.now) (g.B.Counting.left c.args.budget.now)
-    (free_spends c.args.context.now (c.args.place + 1) (Some (EvalStop.Fault c.in-Err.fault)) (g.B.Counting.left c.args.budget.now) (numeric_free c.args.context.now (c.args.place + 1) c.requires.numeric) (fault_nothing c.in-Err.fault (g.B.Counting.left c.args.budget.now)))
+    first_stops c.args.context.now c.ends_once.ensures c.args.place WalkClass.Eager (λ leaf. cc) (walks_by c.args.context.now.list c.args.place (BinaryOperator.Comparison c.args.comparison) WalkClass.Eager c.requires.here refl) c.in-Err.stop (number_faults c.args.context.now (c.args.place + 1) c.in-Err.stop c.in-Err.ensures.answers) (g.B.Counting.left c.number_at.new.budget) (g.B.Counting.left c.args.budget.now) c.in-Err.ensures.spent
 
-pub truth_walk::numbers_truth_at-returns-in-Int-clause-spent : goal.truth_walk::numbers_truth_at-returns-in-Int-clause-spent
-truth_walk::numbers_truth_at-returns-in-Int-clause-spent g t c =
-    free_spends c.args.context.now c.args.place None (g.B.Counting.left c.args.budget.now)
-    (both_free c.args.context.now c.args.place (BinaryOperator.Comparison c.args.comparison) c.requires.here c.right_of-right_place.result c.right_of-right_place.ensures (numeric_free c.args.context.now (c.args.place + 1) c.requires.numeric) (leaf_free c.args.context.now c.right_of-right_place.result c.in-Leaf.ensures.1))
-    (takes_nothing (g.B.Counting.left c.args.budget.now))
+pub truth_walk::numbers_truth_at-returns-in-Ok-clause-spent : goal.truth_walk::numbers_truth_at-returns-in-Ok-clause-spent
+truth_walk::numbers_truth_at-returns-in-Ok-clause-spent g t c =
+    let right = kept_value c.args.context.now c.right_of-right_place.result c.in-Leaf.value.now c.in-Leaf.ensures.0 (number_val (Some c.in-Int.right)) (ap plain_val c.in-Int.is) in
+    both_spend c.args.context.now c.args.place (BinaryOperator.Comparison c.args.comparison) c.requires.here tt c.ends_once.ensures (λ type. number_val c.in-Ok.left) c.in-Ok.ensures.answers c.right_of-right_place.result c.right_of-right_place.ensures (λ type. number_val (Some c.in-Int.right)) right 0 (λ s t. numbers_cost c.in-Ok.left (Some c.in-Int.right))
+    (g.B.Counting.left c.number_at.new.budget) (g.B.Counting.left c.number_at.new.budget) (g.B.Counting.left c.number_at.new.budget) None (free_spends c.args.context.now c.right_of-right_place.result None (g.B.Counting.left c.number_at.new.budget) (leaf_free c.args.context.now c.right_of-right_place.result c.in-Leaf.ensures.1) (takes_nothing (g.B.Counting.left c.number_at.new.budget))) (takes_nothing (g.B.Counting.left c.number_at.new.budget))
+    (g.B.Counting.left c.args.budget.now) c.in-Ok.ensures.spent
 
-pub truth_walk::numbers_truth_at-returns-in-Ok-number_at-clause-spent : goal.truth_walk::numbers_truth_at-returns-in-Ok-number_at-clause-spent
-truth_walk::numbers_truth_at-returns-in-Ok-number_at-clause-spent g t c =
-    free_spends c.args.context.now c.args.place None (g.B.Counting.left c.args.budget.now)
-    (both_free c.args.context.now c.args.place (BinaryOperator.Comparison c.args.comparison) c.requires.here c.right_of-right_place.result c.right_of-right_place.ensures (numeric_free c.args.context.now (c.args.place + 1) c.requires.numeric) (numeric_free c.args.context.now c.right_of-right_place.result c.in-Numeric.ensures))
-    (takes_nothing (g.B.Counting.left c.args.budget.now))
+pub truth_walk::numbers_truth_at-returns-in-Ok-number_at-2-clause-spent : goal.truth_walk::numbers_truth_at-returns-in-Ok-number_at-2-clause-spent
+truth_walk::numbers_truth_at-returns-in-Ok-number_at-2-clause-spent g t c =
+    both_spend c.args.context.now c.args.place (BinaryOperator.Comparison c.args.comparison) c.requires.here tt c.ends_once.ensures (λ type. number_val c.in-Ok-number_at.left) c.in-Ok-number_at.ensures.answers c.right_of-right_place.result c.right_of-right_place.ensures (λ type. number_val c.in-Ok-number_at-2.right) c.in-Ok-number_at-2.ensures.answers 0 (λ s t. numbers_cost c.in-Ok-number_at.left c.in-Ok-number_at-2.right)
+    (g.B.Counting.left c.number_at-in-Numeric.new.budget) (g.B.Counting.left c.number_at-in-Numeric-2.new.budget) (g.B.Counting.left c.number_at-in-Numeric-2.new.budget) None c.in-Ok-number_at-2.ensures.spent (takes_nothing (g.B.Counting.left c.number_at-in-Numeric-2.new.budget)) (g.B.Counting.left c.args.budget.now) c.in-Ok-number_at.ensures.spent
 
 pub truth_walk::numbers_truth_at-returns-in-Err-number_at-clause-spent : goal.truth_walk::numbers_truth_at-returns-in-Err-number_at-clause-spent
 truth_walk::numbers_truth_at-returns-in-Err-number_at-clause-spent g t c =
-    free_spends c.args.context.now c.args.place (Some (EvalStop.Fault c.in-Err-number_at.fault)) (g.B.Counting.left c.args.budget.now)
-    (both_free c.args.context.now c.args.place (BinaryOperator.Comparison c.args.comparison) c.requires.here c.right_of-right_place.result c.right_of-right_place.ensures (numeric_free c.args.context.now (c.args.place + 1) c.requires.numeric) (numeric_free c.args.context.now c.right_of-right_place.result c.in-Numeric.ensures))
-    (fault_nothing c.in-Err-number_at.fault (g.B.Counting.left c.args.budget.now))
+    first_stops c.args.context.now c.ends_once.ensures c.args.place WalkClass.Eager (λ leaf. cc) (walks_by c.args.context.now.list c.args.place (BinaryOperator.Comparison c.args.comparison) WalkClass.Eager c.requires.here refl) c.in-Err-number_at.stop (number_faults c.args.context.now (c.args.place + 1) c.in-Err-number_at.stop c.in-Err-number_at.ensures.answers) (g.B.Counting.left c.number_at-in-Numeric.new.budget) (g.B.Counting.left c.args.budget.now) c.in-Err-number_at.ensures.spent
+
+pub truth_walk::numbers_truth_at-returns-in-Err-number_at-2-clause-spent : goal.truth_walk::numbers_truth_at-returns-in-Err-number_at-2-clause-spent
+truth_walk::numbers_truth_at-returns-in-Err-number_at-2-clause-spent g t c =
+    right_stops c.args.context.now c.args.place (BinaryOperator.Comparison c.args.comparison) c.requires.here tt c.ends_once.ensures (λ type. number_val c.in-Ok-number_at.left) c.in-Ok-number_at.ensures.answers c.right_of-right_place.result c.right_of-right_place.ensures c.in-Err-number_at-2.stop (number_faults c.args.context.now c.right_of-right_place.result c.in-Err-number_at-2.stop c.in-Err-number_at-2.ensures.answers)
+    (g.B.Counting.left c.number_at-in-Numeric.new.budget) (g.B.Counting.left c.number_at-in-Numeric-2.new.budget) c.in-Err-number_at-2.ensures.spent (g.B.Counting.left c.args.budget.now) c.in-Ok-number_at.ensures.spent
 
 pub truth_walk::called_truth_at-returns-in-Ok-clause-spent : goal.truth_walk::called_truth_at-returns-in-Ok-clause-spent
 truth_walk::called_truth_at-returns-in-Ok-clause-spent g t c =
-    free_spends c.args.context.now c.args.place None (g.B.Counting.left c.args.budget.now) (called_free c.args.context.now c.args.place c.args.function c.requires.here) (takes_nothing (g.B.Counting.left c.args.budget.now))
+    let part = typed_part c.args.context.now c.args.place IsBooleanOrNull c.requires.stands in
+    let first : AnswersDatum c.args.context.now (c.args.place + 1) (Ok c.datum_of-first.result) = kept_datum c.args.context.now (c.args.place + 1) c.in-Leaf.value.now c.datum_of-first.result c.in-Leaf.ensures.0 c.datum_of-first.ensures in
+    let next : AnswersDatum c.args.context.now c.stop_of-second_place.result (Ok c.datum_of-second.result) = kept_datum c.args.context.now c.stop_of-second_place.result c.in-Leaf-walk_operand_at.value.now c.datum_of-second.result c.in-Leaf-walk_operand_at.ensures.0 c.datum_of-second.ensures in
+    let walked = two_walked c.args.context.now c.calls_have_one_type.ensures.named c.args.place c.args.function c.requires.here c.stop_of-own_stop.result c.stop_of-own_stop.ensures part c.stop_of-second_place.result c.stop_of-second_place.ensures c.datum_of-first.result first c.if-second_place-own_stop.false c.stop_of.result c.stop_of.ensures c.datum_of-second.result next (g.B.Counting.left c.args.budget.now) (g.B.Counting.left c.args.budget.now) (g.B.Counting.left c.args.budget.now)
+    (free_spends c.args.context.now (c.args.place + 1) None (g.B.Counting.left c.args.budget.now) (leaf_free c.args.context.now (c.args.place + 1) c.in-Leaf.ensures.1) (takes_nothing (g.B.Counting.left c.args.budget.now)))
+    (free_spends c.args.context.now c.stop_of-second_place.result None (g.B.Counting.left c.args.budget.now) (leaf_free c.args.context.now c.stop_of-second_place.result c.in-Leaf-walk_operand_at.ensures.1) (takes_nothing (g.B.Counting.left c.args.budget.now))) in
+    let all = subst (λ (k : ℕ). AllWalked c.args.context.now (c.args.place + 1) k c.stop_of-own_stop.result (c.datum_of-first.result ∷ c.datum_of-second.result ∷ []) (g.B.Counting.left c.args.budget.now) (g.B.Counting.left c.args.budget.now)) c.if-stop_of-own_stop.false walked in
+    call_spends c.args.context.now c.calls_have_one_type.ensures.named c.args.place c.args.function c.requires.here c.stop_of-own_stop.result c.stop_of-own_stop.ensures c.ends_once.ensures (c.datum_of-first.result ∷ c.datum_of-second.result ∷ []) (g.B.Counting.left c.args.budget.now) (g.B.Counting.left c.args.budget.now) (g.B.Counting.left c.take.new.self) None all c.cost_of_two.result c.cost_of_two.ensures (subst (λ (b : Bool). IsTaken b (g.B.Counting.left c.args.budget.now) (g.B.Counting.left c.take.new.self) c.cost_of_two.result) c.if-not-take.false c.take.ensures)
 
 pub truth_walk::called_truth_at-returns-in-Err-clause-spent : goal.truth_walk::called_truth_at-returns-in-Err-clause-spent
 truth_walk::called_truth_at-returns-in-Err-clause-spent g t c =
-    free_spends c.args.context.now c.args.place (Some (EvalStop.Fault c.in-Err.fault)) (g.B.Counting.left c.args.budget.now) (called_free c.args.context.now c.args.place c.args.function c.requires.here) (fault_nothing c.in-Err.fault (g.B.Counting.left c.args.budget.now))
+    let part = typed_part c.args.context.now c.args.place IsBooleanOrNull c.requires.stands in
+    let first : AnswersDatum c.args.context.now (c.args.place + 1) (Ok c.datum_of-first.result) = kept_datum c.args.context.now (c.args.place + 1) c.in-Leaf.value.now c.datum_of-first.result c.in-Leaf.ensures.0 c.datum_of-first.ensures in
+    let next : AnswersDatum c.args.context.now c.stop_of-second_place.result (Ok c.datum_of-second.result) = kept_datum c.args.context.now c.stop_of-second_place.result c.in-Leaf-walk_operand_at.value.now c.datum_of-second.result c.in-Leaf-walk_operand_at.ensures.0 c.datum_of-second.ensures in
+    let walked = two_walked c.args.context.now c.calls_have_one_type.ensures.named c.args.place c.args.function c.requires.here c.stop_of-own_stop.result c.stop_of-own_stop.ensures part c.stop_of-second_place.result c.stop_of-second_place.ensures c.datum_of-first.result first c.if-second_place-own_stop.false c.stop_of.result c.stop_of.ensures c.datum_of-second.result next (g.B.Counting.left c.args.budget.now) (g.B.Counting.left c.args.budget.now) (g.B.Counting.left c.args.budget.now)
+    (free_spends c.args.context.now (c.args.place + 1) None (g.B.Counting.left c.args.budget.now) (leaf_free c.args.context.now (c.args.place + 1) c.in-Leaf.ensures.1) (takes_nothing (g.B.Counting.left c.args.budget.now)))
+    (free_spends c.args.context.now c.stop_of-second_place.result None (g.B.Counting.left c.args.budget.now) (leaf_free c.args.context.now c.stop_of-second_place.result c.in-Leaf-walk_operand_at.ensures.1) (takes_nothing (g.B.Counting.left c.args.budget.now))) in
+    let all = subst (λ (k : ℕ). AllWalked c.args.context.now (c.args.place + 1) k c.stop_of-own_stop.result (c.datum_of-first.result ∷ c.datum_of-second.result ∷ []) (g.B.Counting.left c.args.budget.now) (g.B.Counting.left c.args.budget.now)) c.if-stop_of-own_stop.false walked in
+    call_spends c.args.context.now c.calls_have_one_type.ensures.named c.args.place c.args.function c.requires.here c.stop_of-own_stop.result c.stop_of-own_stop.ensures c.ends_once.ensures (c.datum_of-first.result ∷ c.datum_of-second.result ∷ []) (g.B.Counting.left c.args.budget.now) (g.B.Counting.left c.args.budget.now) (g.B.Counting.left c.take.new.self) (Some (EvalStop.Fault c.in-Err.fault)) all c.cost_of_two.result c.cost_of_two.ensures (fault_paid c.in-Err.fault (g.B.Counting.left c.args.budget.now) (g.B.Counting.left c.take.new.self) c.cost_of_two.result (subst (λ (b : Bool). IsTaken b (g.B.Counting.left c.args.budget.now) (g.B.Counting.left c.take.new.self) c.cost_of_two.result) c.if-not-take.false c.take.ensures))
+
+pub truth_walk::called_truth_at-returns-then-not-take-clause-spent : goal.truth_walk::called_truth_at-returns-then-not-take-clause-spent
+truth_walk::called_truth_at-returns-then-not-take-clause-spent g t c =
+    let part = typed_part c.args.context.now c.args.place IsBooleanOrNull c.requires.stands in
+    let first : AnswersDatum c.args.context.now (c.args.place + 1) (Ok c.datum_of-first.result) = kept_datum c.args.context.now (c.args.place + 1) c.in-Leaf.value.now c.datum_of-first.result c.in-Leaf.ensures.0 c.datum_of-first.ensures in
+    let next : AnswersDatum c.args.context.now c.stop_of-second_place.result (Ok c.datum_of-second.result) = kept_datum c.args.context.now c.stop_of-second_place.result c.in-Leaf-walk_operand_at.value.now c.datum_of-second.result c.in-Leaf-walk_operand_at.ensures.0 c.datum_of-second.ensures in
+    let walked = two_walked c.args.context.now c.calls_have_one_type.ensures.named c.args.place c.args.function c.requires.here c.stop_of-own_stop.result c.stop_of-own_stop.ensures part c.stop_of-second_place.result c.stop_of-second_place.ensures c.datum_of-first.result first c.if-second_place-own_stop.false c.stop_of.result c.stop_of.ensures c.datum_of-second.result next (g.B.Counting.left c.args.budget.now) (g.B.Counting.left c.args.budget.now) (g.B.Counting.left c.args.budget.now)
+    (free_spends c.args.context.now (c.args.place + 1) None (g.B.Counting.left c.args.budget.now) (leaf_free c.args.context.now (c.args.place + 1) c.in-Leaf.ensures.1) (takes_nothing (g.B.Counting.left c.args.budget.now)))
+    (free_spends c.args.context.now c.stop_of-second_place.result None (g.B.Counting.left c.args.budget.now) (leaf_free c.args.context.now c.stop_of-second_place.result c.in-Leaf-walk_operand_at.ensures.1) (takes_nothing (g.B.Counting.left c.args.budget.now))) in
+    let all = subst (λ (k : ℕ). AllWalked c.args.context.now (c.args.place + 1) k c.stop_of-own_stop.result (c.datum_of-first.result ∷ c.datum_of-second.result ∷ []) (g.B.Counting.left c.args.budget.now) (g.B.Counting.left c.args.budget.now)) c.if-stop_of-own_stop.false walked in
+    call_spends c.args.context.now c.calls_have_one_type.ensures.named c.args.place c.args.function c.requires.here c.stop_of-own_stop.result c.stop_of-own_stop.ensures c.ends_once.ensures (c.datum_of-first.result ∷ c.datum_of-second.result ∷ []) (g.B.Counting.left c.args.budget.now) (g.B.Counting.left c.args.budget.now) (g.B.Counting.left c.take.new.self) (Some EvalStop.TooCostly) all c.cost_of_two.result c.cost_of_two.ensures (subst (λ (b : Bool). IsTaken b (g.B.Counting.left c.args.budget.now) (g.B.Counting.left c.take.new.self) c.cost_of_two.result) c.if-not-take.true c.take.ensures)
 
 pub truth_walk::logical_at-returns-in-Err-clause-spent : goal.truth_walk::logical_at-returns-in-Err-clause-spent
 truth_walk::logical_at-returns-in-Err-clause-spent g t c =
@@ -1079,14 +1279,6 @@ pub datum_walk::counted_at-returns-in-Leaf-clause-spent : goal.datum_walk::count
 datum_walk::counted_at-returns-in-Leaf-clause-spent g t c =
     free_spends c.args.context.now c.args.place None (g.B.Counting.left c.args.budget.now) (leaf_free c.args.context.now c.args.place c.in-Leaf.ensures.1) (takes_nothing (g.B.Counting.left c.args.budget.now))
 
-pub datum_walk::counted_at-returns-in-Ok-number_at-clause-spent : goal.datum_walk::counted_at-returns-in-Ok-number_at-clause-spent
-datum_walk::counted_at-returns-in-Ok-number_at-clause-spent g t c =
-    free_spends c.args.context.now c.args.place None (g.B.Counting.left c.args.budget.now) (numeric_free c.args.context.now c.args.place c.in-Numeric.ensures) (takes_nothing (g.B.Counting.left c.args.budget.now))
-
-pub datum_walk::counted_at-returns-in-Err-number_at-clause-spent : goal.datum_walk::counted_at-returns-in-Err-number_at-clause-spent
-datum_walk::counted_at-returns-in-Err-number_at-clause-spent g t c =
-    free_spends c.args.context.now c.args.place (Some (EvalStop.Fault c.in-Err-number_at.fault)) (g.B.Counting.left c.args.budget.now) (numeric_free c.args.context.now c.args.place c.in-Numeric.ensures) (fault_nothing c.in-Err-number_at.fault (g.B.Counting.left c.args.budget.now))
-
 pub datum_walk::made_at-returns-in-Err-clause-spent : goal.datum_walk::made_at-returns-in-Err-clause-spent
 datum_walk::made_at-returns-in-Err-clause-spent g t c =
     after_stop Datum c.args.context.now c.args.place c.args.first c.in-Err.before (g.B.Counting.left c.args.budget.now) (g.B.Counting.left c.args.budget.now) (Some c.in-Err.before) c.in-Err.is
@@ -1105,21 +1297,17 @@ datum_walk::made_at-returns-in-AnyItem-clause-spent g t c =
 
 pub datum_walk::made_at-returns-in-Call-clause-spent : goal.datum_walk::made_at-returns-in-Call-clause-spent
 datum_walk::made_at-returns-in-Call-clause-spent g t c =
-    let here : HasKind c.args.context.now.list c.args.place (NodeKind.Call c.in-Call.function) = there_found (λ (f : CheckedNode). f.kind ≡ (NodeKind.Call c.in-Call.function)) (slice_get c.args.context.now.list.nodes c.args.place) c.node.result.now c.node.ensures c.in-Call.is in
-    after_value Datum c.args.context.now c.args.place c.args.first c.in-Ok.first (g.B.Counting.left c.args.budget.now) (g.B.Counting.left c.args.budget.now) (datum_stop c.as_stop.result) c.in-Ok.is
-    (nothing_more c.args.context.now c.args.place (NodeKind.Call c.in-Call.function) tt here (g.B.Counting.left c.args.budget.now) (datum_stop c.as_stop.result) (as_spent c.called_at.result c.as_stop.result (g.B.Counting.left c.args.budget.now) c.as_stop.ensures))
+    after_value Datum c.args.context.now c.args.place c.args.first c.in-Ok.first (g.B.Counting.left c.args.budget.now) (g.B.Counting.left c.called_at.new.budget) (datum_stop c.called_at.result) c.in-Ok.is c.called_at.ensures.spent
 
 pub datum_walk::made_at-returns-in-Count-clause-spent : goal.datum_walk::made_at-returns-in-Count-clause-spent
 datum_walk::made_at-returns-in-Count-clause-spent g t c =
     let here : HasKind c.args.context.now.list c.args.place (NodeKind.Count) = there_found (λ (f : CheckedNode). f.kind ≡ (NodeKind.Count)) (slice_get c.args.context.now.list.nodes c.args.place) c.node.result.now c.node.ensures c.in-Count.is in
-    after_value Datum c.args.context.now c.args.place c.args.first c.in-Ok.first (g.B.Counting.left c.args.budget.now) (g.B.Counting.left c.args.budget.now) (datum_stop c.as_stop-in-Count.result) c.in-Ok.is
-    (nothing_more c.args.context.now c.args.place (NodeKind.Count) tt here (g.B.Counting.left c.args.budget.now) (datum_stop c.as_stop-in-Count.result) (as_spent c.count_of.result c.as_stop-in-Count.result (g.B.Counting.left c.args.budget.now) c.as_stop-in-Count.ensures))
+    after_value Datum c.args.context.now c.args.place c.args.first c.in-Ok.first (g.B.Counting.left c.args.budget.now) (g.B.Counting.left c.args.budget.now) (datum_stop c.as_stop.result) c.in-Ok.is
+    (nothing_more c.args.context.now c.args.place (NodeKind.Count) tt here (g.B.Counting.left c.args.budget.now) (datum_stop c.as_stop.result) (as_spent c.count_of.result c.as_stop.result (g.B.Counting.left c.args.budget.now) c.as_stop.ensures))
 
 pub datum_walk::made_at-returns-in-Has-clause-spent : goal.datum_walk::made_at-returns-in-Has-clause-spent
 datum_walk::made_at-returns-in-Has-clause-spent g t c =
-    let here : HasKind c.args.context.now.list c.args.place (NodeKind.Has) = there_found (λ (f : CheckedNode). f.kind ≡ (NodeKind.Has)) (slice_get c.args.context.now.list.nodes c.args.place) c.node.result.now c.node.ensures c.in-Has.is in
-    after_value Datum c.args.context.now c.args.place c.args.first c.in-Ok.first (g.B.Counting.left c.args.budget.now) (g.B.Counting.left c.args.budget.now) (datum_stop c.as_stop-in-Has.result) c.in-Ok.is
-    (nothing_more c.args.context.now c.args.place (NodeKind.Has) tt here (g.B.Counting.left c.args.budget.now) (datum_stop c.as_stop-in-Has.result) (as_spent c.flags_at.result c.as_stop-in-Has.result (g.B.Counting.left c.args.budget.now) c.as_stop-in-Has.ensures))
+    after_value Datum c.args.context.now c.args.place c.args.first c.in-Ok.first (g.B.Counting.left c.args.budget.now) (g.B.Counting.left c.flags_at.new.budget) (datum_stop c.flags_at.result) c.in-Ok.is c.flags_at.ensures.spent
 
 pub datum_walk::made_at-returns-in-InPath-clause-spent : goal.datum_walk::made_at-returns-in-InPath-clause-spent
 datum_walk::made_at-returns-in-InPath-clause-spent g t c =
@@ -1137,27 +1325,19 @@ pub datum_walk::made_at-returns-in-Binary-Comparison-clause-spent : goal.datum_w
 datum_walk::made_at-returns-in-Binary-Comparison-clause-spent g t c =
     after_value Datum c.args.context.now c.args.place c.args.first c.in-Ok.first (g.B.Counting.left c.args.budget.now) (g.B.Counting.left c.compared_at.new.budget) (datum_stop c.compared_at.result) c.in-Ok.is c.compared_at.ensures.spent
 
-pub datum_walk::compared_at-returns-in-Leaf-clause-spent : goal.datum_walk::compared_at-returns-in-Leaf-clause-spent
-datum_walk::compared_at-returns-in-Leaf-clause-spent g t c =
-    right_compared c.args.context.now c.args.place c.args.comparison c.requires.here c.ends_once.ensures (λ type. datum_val (reading_at (slots_of c.args.context.now.row.schema) type) c.args.left) c.requires.left c.right_of-right_place.result c.right_of-right_place.ensures (g.B.Counting.left c.args.budget.now) (g.B.Counting.left c.args.budget.now) None
-    (free_spends c.args.context.now c.right_of-right_place.result None (g.B.Counting.left c.args.budget.now) (leaf_free c.args.context.now c.right_of-right_place.result c.in-Leaf.ensures.1) (takes_nothing (g.B.Counting.left c.args.budget.now)))
-
 pub datum_walk::compared_at-returns-in-Ok-clause-spent : goal.datum_walk::compared_at-returns-in-Ok-clause-spent
 datum_walk::compared_at-returns-in-Ok-clause-spent g t c =
-    right_compared c.args.context.now c.args.place c.args.comparison c.requires.here c.ends_once.ensures (λ type. datum_val (reading_at (slots_of c.args.context.now.row.schema) type) c.args.left) c.requires.left c.right_of-right_place.result c.right_of-right_place.ensures (g.B.Counting.left c.args.budget.now) (g.B.Counting.left c.counted_at.new.budget) None c.in-Ok.ensures.spent
+    both_spend c.args.context.now c.args.place (BinaryOperator.Comparison c.args.comparison) c.requires.here tt c.ends_once.ensures (λ type. datum_val (reading_at (slots_of c.args.context.now.row.schema) type) c.args.left) c.requires.left c.right_of-right_place.result c.right_of-right_place.ensures (λ type. datum_val (reading_at (slots_of c.args.context.now.row.schema) type) c.in-Ok.right) c.in-Ok.ensures.answers c.comparison_cost.result (λ s t. sym (c.comparison_cost.ensures (reading_at (slots_of c.args.context.now.row.schema) s) (reading_at (slots_of c.args.context.now.row.schema) t)))
+    (g.B.Counting.left c.args.budget.now) (g.B.Counting.left c.likely_stored_at.new.budget) (g.B.Counting.left c.take.new.self) None c.in-Ok.ensures.spent (subst (λ (b : Bool). IsTaken b (g.B.Counting.left c.likely_stored_at.new.budget) (g.B.Counting.left c.take.new.self) c.comparison_cost.result) c.if-not-take.false c.take.ensures)
+
+pub datum_walk::compared_at-returns-then-not-take-clause-spent : goal.datum_walk::compared_at-returns-then-not-take-clause-spent
+datum_walk::compared_at-returns-then-not-take-clause-spent g t c =
+    both_spend c.args.context.now c.args.place (BinaryOperator.Comparison c.args.comparison) c.requires.here tt c.ends_once.ensures (λ type. datum_val (reading_at (slots_of c.args.context.now.row.schema) type) c.args.left) c.requires.left c.right_of-right_place.result c.right_of-right_place.ensures (λ type. datum_val (reading_at (slots_of c.args.context.now.row.schema) type) c.in-Ok.right) c.in-Ok.ensures.answers c.comparison_cost.result (λ s t. sym (c.comparison_cost.ensures (reading_at (slots_of c.args.context.now.row.schema) s) (reading_at (slots_of c.args.context.now.row.schema) t)))
+    (g.B.Counting.left c.args.budget.now) (g.B.Counting.left c.likely_stored_at.new.budget) (g.B.Counting.left c.take.new.self) (Some EvalStop.TooCostly) c.in-Ok.ensures.spent (subst (λ (b : Bool). IsTaken b (g.B.Counting.left c.likely_stored_at.new.budget) (g.B.Counting.left c.take.new.self) c.comparison_cost.result) c.if-not-take.true c.take.ensures)
 
 pub datum_walk::compared_at-returns-clause-spent : goal.datum_walk::compared_at-returns-clause-spent
 datum_walk::compared_at-returns-clause-spent g t c =
-    right_compared c.args.context.now c.args.place c.args.comparison c.requires.here c.ends_once.ensures (λ type. datum_val (reading_at (slots_of c.args.context.now.row.schema) type) c.args.left) c.requires.left c.right_of-right_place.result c.right_of-right_place.ensures (g.B.Counting.left c.args.budget.now) (g.B.Counting.left c.counted_at.new.budget) (Some c.in-Err.behind) c.in-Err.ensures.spent
-
-pub datum_walk::operand_at-returns-in-Leaf : goal.datum_walk::operand_at-returns-in-Leaf
-datum_walk::operand_at-returns-in-Leaf g t c = kept_datum c.args.context.now c.args.place c.in-Leaf.value.now c.datum_of.result c.in-Leaf.ensures.0 c.datum_of.ensures
-
-pub datum_walk::operand_at-fault_of-requires : goal.datum_walk::operand_at-fault_of-requires
-datum_walk::operand_at-fault_of-requires g t c =
-    λ same. never_costly c.args.context.now c.args.place c.requires.stands c.costs_once.ensures (g.B.Counting.left c.counted_at.new.budget)
-    (subst (λ (b : Budget). SpendsAt c.args.context.now c.args.place b (g.B.Counting.left c.counted_at.new.budget) (Some EvalStop.TooCostly)) c.without_bound-unbounded.ensures
-    (subst (λ (s : EvalStop). SpendsAt c.args.context.now c.args.place (g.B.Counting.left c.without_bound-unbounded.result) (g.B.Counting.left c.counted_at.new.budget) (Some s)) same c.in-Err.ensures.spent))
+    right_stops c.args.context.now c.args.place (BinaryOperator.Comparison c.args.comparison) c.requires.here tt c.ends_once.ensures (λ type. datum_val (reading_at (slots_of c.args.context.now.row.schema) type) c.args.left) c.requires.left c.right_of-right_place.result c.right_of-right_place.ensures c.in-Err.behind (datum_faults c.args.context.now c.right_of-right_place.result c.in-Err.behind c.in-Err.ensures.answers) (g.B.Counting.left c.args.budget.now) (g.B.Counting.left c.likely_stored_at.new.budget) c.in-Err.ensures.spent
 
 pub lambda_walk::lambda_at-returns-in_default-clause-spent : goal.lambda_walk::lambda_at-returns-in_default-clause-spent
 lambda_walk::lambda_at-returns-in_default-clause-spent g t c =
@@ -1204,8 +1384,14 @@ pub collection_walk::listed_at-returns-in-Err-clause-spent : goal.collection_wal
 collection_walk::listed_at-returns-in-Err-clause-spent g t c =
     item_stops c.args.context.now c.args.place c.stop_of-own_stop.result c.loop-at.at c.args.left.now (g.B.Counting.left c.args.budget.now) (g.B.Counting.left c.loop-at.budget) c.loop-at.invariant (g.B.Counting.left c.take_item.new.budget) (g.B.Counting.left c.likely_stored_at.new.budget) (subst (λ (b : Bool). IsTaken b (g.B.Counting.left c.loop-at.budget) (g.B.Counting.left c.take_item.new.budget) (item_cost (environment_of c.args.context.now))) c.if-not-take_item.false c.take_item.ensures) c.ends_once.ensures c.loop-at-test.true c.in-Err.stop (datum_faults c.args.context.now c.loop-at.at c.in-Err.stop c.in-Err.ensures.answers) c.in-Err.ensures.spent
 
+pub collection_walk::listed_at-returns-then-not-take-clause-spent : goal.collection_walk::listed_at-returns-then-not-take-clause-spent
+collection_walk::listed_at-returns-then-not-take-clause-spent g t c =
+    item_is_costly c.args.context.now c.args.place c.stop_of-own_stop.result c.loop-at.at c.args.left.now (g.B.Counting.left c.args.budget.now) (g.B.Counting.left c.loop-at.budget) c.loop-at.invariant (g.B.Counting.left c.take_item.new.budget) (g.B.Counting.left c.likely_stored_at.new.budget) (subst (λ (b : Bool). IsTaken b (g.B.Counting.left c.loop-at.budget) (g.B.Counting.left c.take_item.new.budget) (item_cost (environment_of c.args.context.now))) c.if-not-take_item.false c.take_item.ensures) c.comparison_cost.result
+    (next_due c.args.context.now c.args.place c.stop_of-own_stop.result c.loop-at.at (Takes (g.B.Counting.left c.args.budget.now) (g.B.Counting.left c.loop-at.budget)) c.args.left.now c.loop-at.invariant c.trees_have_one_type.ensures c.in-Ok.item c.in-Ok.ensures.answers c.loop-at-test.true c.ends_once.ensures c.comparison_cost.result c.comparison_cost.ensures)
+    c.in-Ok.ensures.spent (subst (λ (b : Bool). IsTaken b (g.B.Counting.left c.likely_stored_at.new.budget) (g.B.Counting.left c.take.new.self) c.comparison_cost.result) c.if-not-take.true c.take.ensures) (g.B.Counting.left c.take.new.self)
+
 pub collection_walk::listed_at-returns-then-compare-clause-spent : goal.collection_walk::listed_at-returns-then-compare-clause-spent
 collection_walk::listed_at-returns-then-compare-clause-spent g t c =
-    item_ends c.args.context.now c.args.place c.stop_of-own_stop.result c.loop-at.at c.args.left.now (g.B.Counting.left c.args.budget.now) (g.B.Counting.left c.loop-at.budget) c.loop-at.invariant (g.B.Counting.left c.take_item.new.budget) (g.B.Counting.left c.likely_stored_at.new.budget) (subst (λ (b : Bool). IsTaken b (g.B.Counting.left c.loop-at.budget) (g.B.Counting.left c.take_item.new.budget) (item_cost (environment_of c.args.context.now))) c.if-not-take_item.false c.take_item.ensures)
-    (equal_due c.args.context.now c.args.place c.stop_of-own_stop.result c.loop-at.at (Takes (g.B.Counting.left c.args.budget.now) (g.B.Counting.left c.loop-at.budget)) c.args.left.now c.loop-at.invariant c.trees_have_one_type.ensures c.in-Ok.item c.in-Ok.ensures.answers c.loop-at-test.true c.ends_once.ensures c.compare.result c.compare.ensures c.if-compare.true)
+    item_ends c.args.context.now c.args.place c.stop_of-own_stop.result c.loop-at.at c.args.left.now (g.B.Counting.left c.args.budget.now) (g.B.Counting.left c.loop-at.budget) c.loop-at.invariant (g.B.Counting.left c.take_item.new.budget) (g.B.Counting.left c.likely_stored_at.new.budget) (subst (λ (b : Bool). IsTaken b (g.B.Counting.left c.loop-at.budget) (g.B.Counting.left c.take_item.new.budget) (item_cost (environment_of c.args.context.now))) c.if-not-take_item.false c.take_item.ensures) (g.B.Counting.left c.take.new.self) c.comparison_cost.result (subst (λ (b : Bool). IsTaken b (g.B.Counting.left c.likely_stored_at.new.budget) (g.B.Counting.left c.take.new.self) c.comparison_cost.result) c.if-not-take.false c.take.ensures)
+    (equal_due c.args.context.now c.args.place c.stop_of-own_stop.result c.loop-at.at (Takes (g.B.Counting.left c.args.budget.now) (g.B.Counting.left c.loop-at.budget)) c.args.left.now c.loop-at.invariant c.trees_have_one_type.ensures c.in-Ok.item c.in-Ok.ensures.answers c.loop-at-test.true c.ends_once.ensures c.compare.result c.compare.ensures c.if-compare.true c.comparison_cost.result c.comparison_cost.ensures)
     c.in-Ok.ensures.spent

@@ -1,7 +1,6 @@
 use Rattle.std.proofs.Common.{◌≤◌, ◌-◌}
 use Rattle.odata_eval.specs.private.ContextModel.{IsBeside}
-use Rattle.odata_eval.specs.private.Spending.{CountedDatum, CountedTruth, SpendsAt, Takes, datum_stop, stopped_by}
-use Rattle.odata_eval.specs.private.WalkAnswer.{AnswersNumber}
+use Rattle.odata_eval.specs.private.Spending.{CountedDatum, CountedNumber, CountedTruth, SpendsAt, Takes, datum_stop, stopped_by}
 use Rattle.odata_eval.proofs.spending.Members.{MembersPaid}
 use Rattle.odata_eval.proofs.walking.ItemSteps.{ListLeft}
 use Rattle.odata_eval.proofs.walking.MembersAsked.{MembersLeft}
@@ -13,9 +12,6 @@ decreases-number_walk::number_operand_at g l = measure_at l.context.now.list.nod
 
 abbrev pub decreases-number_walk::made_number_at : goal.decreases-number_walk::made_number_at
 decreases-number_walk::made_number_at g l = measure_at l.context.now.list.nodes l.place rank_made_number
-
-abbrev pub decreases-datum_walk::operand_at : goal.decreases-datum_walk::operand_at
-decreases-datum_walk::operand_at g l = measure_at l.context.now.list.nodes l.place rank_operand
 
 abbrev pub decreases-datum_walk::likely_stored_at : goal.decreases-datum_walk::likely_stored_at
 decreases-datum_walk::likely_stored_at g l = measure_at l.context.now.list.nodes l.place rank_operand
@@ -104,7 +100,8 @@ abbrev pub invariant-number_walk::number_at-loop-at : goal.invariant-number_walk
 invariant-number_walk::number_at-loop-at g l = record {
   above : l.place ≤ l.at;
   within : l.at ≤ l.bottom;
-  answers : AnswersNumber l.context l.at l.answer;
+  answers : CountedNumber l.context l.at l.answer;
+  spent : SpendsAt l.context l.at (g.B.Counting.left l.fn.budget) (g.B.Counting.left l.budget) (stopped_by l.answer);
 }
 
 abbrev pub decreases-number_walk::number_at-loop-at : goal.decreases-number_walk::number_at-loop-at

@@ -1,6 +1,6 @@
 -- What the items of a list cost that have been asked for, and what is due for the others.
-use Rattle.std.proofs.Common.{◌≡◌, ◌<◌, ◌+◌, ◌∙◌, ℕ, zero, suc, [], ◌∷◌, true, false, refl, sym, subst, inl, inr, arith}
-use Rattle.edm_values.specs.Val.{Val, boolean}
+use Rattle.std.proofs.Common.{◌≡◌, ◌<◌, ◌+◌, ◌∙◌, ℕ, ℤ, zero, suc, [], ◌∷◌, true, false, refl, sym, subst, inl, inr, arith}
+use Rattle.edm_values.specs.Val.{Val, boolean, member, text}
 use Rattle.csdl_schema.specs.ExprType.{ExprType, collection}
 use Rattle.csdl_schema.specs.SchemaModel.{slots_of, type_name_at}
 use Rattle.edm_entities.specs.Row.{value_of}
@@ -15,7 +15,8 @@ use Rattle.odata_signatures.specs.ExprTypes.{boolean_type}
 use Rattle.odata_syntax.specs.Tree.{Tree, Trees, in_list, more_trees, no_trees, node}
 use Rattle.odata_syntax.specs.declared.node.Quantifier.{Quantifier}
 use Rattle.odata_signatures.specs.Sides.{side_of}
-use Rattle.odata_meaning.specs.Costs.{CostAfter, CostThen, ItemsCost, OthersCost, item_cost}
+use Rattle.odata_meaning.specs.Costs.{CostAfter, CostThen, CostsExactly, ItemsCost, OthersCost, item_cost}
+use Rattle.odata_filter_operations.specs.TextCosts.{comparison_cost}
 use Rattle.odata_meaning.specs.Means.{ItemMeans}
 use Rattle.odata_eval.specs.private.EvalContext.{EndsOnceHere, MeansHere, StandsHere, TypedHere}
 use Rattle.odata_eval.specs.private.ContextModel.{ContextModel, environment_of}
@@ -96,6 +97,15 @@ module _ (context : ContextModel) where
       let second : MeansHere context alone p = (gives l, (side.left_means, alone_gives (TypedHere context left) l item p of_p)) in
       once.only o first ∙ sym (once.only p second)
 
+  -- a fault of an item is its only outcome
+  pub alone_faults : EndsOnceHere context → (left : Tree) (l : Val) (item : Tree) → SideItem left l item → (o p : Outcome) → AloneHere context (TypedHere context left) item o
+      → AloneHere context (TypedHere context left) item p → ((n : ℤ) → p ≡ gives (member n) → ⊥) → o ≡ p
+  alone_faults ends left l item side o p of_o (inl read) never = absurd (never read.0 read.2)
+  alone_faults ends left l item side o p (inl read) (inr alone) never = absurd (alone.0 read.0 read.1)
+  alone_faults ends left l item side o p (inr first) (inr second) never =
+      let once = ends item side.item_type side.item_typed in
+      once.only o first.1 ∙ sym (once.only p second.1)
+
   -- ---- what is due
 
   -- the left side's cost, what items have cost so far, and what the others are asked for
@@ -125,8 +135,8 @@ module _ (context : ContextModel) where
     asked = follows after.outcome (gives l) (λ v. ItemsCostHere (TypedHere context left) v items) after.rest (only after.outcome after.is) after.follows;
   }
 
-  -- what is due of one item, and of the others
-  pub record ItemDue (place n : ℕ) (IsPaid : ℕ → Type 0) (left : Tree) (l : Val) (item : Tree) (more : Trees) (o : Outcome) : Type 0 where
+  -- what is due of one item, of its comparison, and of the others
+  pub record ItemDue (place n : ℕ) (IsPaid : ℕ → Type 0) (left : Tree) (l : Val) (item : Tree) (more : Trees) (v : Val) : Type 0 where
     pub stop : ℕ
     pub stands : StandsHere context (place + 1) stop left
     pub own : ℕ
@@ -136,26 +146,71 @@ module _ (context : ContextModel) where
     pub item_own : ℕ
     pub item_costs : CostsHere context item item_own
     pub later : ℕ
-    pub sum : n ≡ own + (paid + (item_cost (environment_of context) + (item_own + later)))
-    pub follows_item : CostThen o (OthersCost Quantifier.Any (ItemsCostHere (TypedHere context left) l more)) later
+    pub sum : n ≡ own + (paid + (item_cost (environment_of context) + (item_own + (comparison_cost l v + later))))
+    pub outcome : Outcome
+    pub compared : ComparedHere (TypedHere context left) l item outcome
+    pub follows_item : CostThen outcome (OthersCost Quantifier.Any (ItemsCostHere (TypedHere context left) l more)) later
 
-  due_sum : (n own paid due first more item_own later : ℕ) → n ≡ own + (paid + due) → due ≡ first + more → more ≡ item_own + later → n ≡ own + (paid + (first + (item_own + later)))
-  due_sum n own paid due first more item_own later a b c = omega (arith, a, b, c)
+  due_sum : (n own paid due first more item_own rest compared later : ℕ) → n ≡ own + (paid + due) → due ≡ first + more → more ≡ item_own + rest → rest ≡ compared + later
+      → n ≡ own + (paid + (first + (item_own + (compared + later))))
+  due_sum n own paid due first more item_own rest compared later a b c d = omega (arith, a, b, c, d)
 
-  pub item_due : (place n : ℕ) (IsPaid : ℕ → Type 0) (left : Tree) (l : Val) (item : Tree) (more : Trees) (o : Outcome)
-      → ((p : Outcome) → ComparedHere (TypedHere context left) l item p → p ≡ o) → ItemsDue place n IsPaid left l (more_trees item more) → ItemDue place n IsPaid left l item more o
-  item_due place n IsPaid left l item more o only it =
-      let after = it.asked.1 in
-      record {
-        stop = it.stop;
-        stands = it.stands;
-        own = it.own;
-        costs = it.costs;
-        paid = it.paid;
-        is_paid = it.is_paid;
-        item_own = after.own;
-        item_costs = after.costs;
-        later = after.rest;
-        sum = due_sum n it.own it.paid it.due (item_cost (environment_of context)) it.asked.0 after.own after.rest it.sum it.asked.2 after.sum;
-        follows_item = follows after.outcome o (OthersCost Quantifier.Any (ItemsCostHere (TypedHere context left) l more)) after.rest (only after.outcome after.is) after.follows;
-      }
+  -- a number of an enumeration costs nothing beside any value
+  beside_number : (l : Val) (n : ℤ) → comparison_cost l (member n) ≡ 0
+  beside_number (text t) n = refl
+  beside_number _ n = refl
+
+  gives_value : (v w : Val) → gives v ≡ gives w → v ≡ w
+  gives_value v w same = cc
+
+  -- the values of an item cost the same beside the left one
+  alone_costs : EndsOnceHere context → (left : Tree) (l : Val) (item : Tree) → SideItem left l item → (w v : Val) → AloneHere context (TypedHere context left) item (gives w)
+      → AloneHere context (TypedHere context left) item (gives v) → comparison_cost l w ≡ comparison_cost l v
+  alone_costs ends left l item side w v (inl read) (inl other) =
+      let is : w ≡ member read.0 = gives_value w (member read.0) read.2 in
+      let too : v ≡ member other.0 = gives_value v (member other.0) other.2 in
+      subst (λ (k : Val). comparison_cost l k ≡ comparison_cost l v) (sym is)
+      (subst (λ (k : Val). comparison_cost l (member read.0) ≡ comparison_cost l k) (sym too) (beside_number l read.0 ∙ sym (beside_number l other.0)))
+  alone_costs ends left l item side w v (inl read) (inr alone) = absurd (alone.0 read.0 read.1)
+  alone_costs ends left l item side w v (inr alone) (inl read) = absurd (alone.0 read.0 read.1)
+  alone_costs ends left l item side w v (inr alone) (inr other) =
+      let once = ends item side.item_type side.item_typed in
+      let is : w ≡ v = gives_value w v (once.only (gives w) alone.1 ∙ sym (once.only (gives v) other.1)) in
+      subst (λ (k : Val). comparison_cost l w ≡ comparison_cost l k) is refl
+
+  abbrev pub AfterItem : (ExprType → Type 0) → Val → Trees → Val → ℕ → Type 0
+  AfterItem OtherSide l more w = CostAfter (CompareGives ComparisonOperator.Eq l w) (CostsExactly (comparison_cost l w)) (OthersCost Quantifier.Any (ItemsCostHere OtherSide l more))
+
+  module _ (ends : EndsOnceHere context) (place n : ℕ) (IsPaid : ℕ → Type 0) (left : Tree) (l : Val) (item : Tree) (more : Trees) (v : Val)
+      (alone : AloneHere context (TypedHere context left) item (gives v)) (side : SideItem left l item) (it : ItemsDue place n IsPaid left l (more_trees item more)) where
+    item_due_after : (item_own rest all : ℕ) (p : Outcome) → AloneHere context (TypedHere context left) item p → CostsHere context item item_own → CostThen p (AfterItem (TypedHere context left) l more) rest
+        → all ≡ item_own + rest → it.due ≡ item_cost (environment_of context) + all → ItemDue place n IsPaid left l item more v
+    item_due_after item_own rest all (gives w) is item_costs goes sum first =
+        let cost : goes.own ≡ comparison_cost l v = goes.costs ∙ alone_costs ends left l item side w v is alone in
+        let rest_is : rest ≡ comparison_cost l v + goes.rest = subst (λ (k : ℕ). rest ≡ k + goes.rest) cost goes.sum in
+        record {
+          stop = it.stop;
+          stands = it.stands;
+          own = it.own;
+          costs = it.costs;
+          paid = it.paid;
+          is_paid = it.is_paid;
+          item_own = item_own;
+          item_costs = item_costs;
+          later = goes.rest;
+          sum = due_sum n it.own it.paid it.due (item_cost (environment_of context)) all item_own rest (comparison_cost l v) goes.rest it.sum first sum rest_is;
+          outcome = goes.outcome;
+          compared = (gives w, (is, goes.is));
+          follows_item = goes.follows;
+        }
+    item_due_after item_own rest all overflow is item_costs goes sum first =
+        let never : gives v ≡ overflow = alone_faults ends left l item side (gives v) overflow alone is (λ k no. cc) in
+        absurd (cc)
+    item_due_after item_own rest all divides_by_zero is item_costs goes sum first =
+        let never : gives v ≡ divides_by_zero = alone_faults ends left l item side (gives v) divides_by_zero alone is (λ k no. cc) in
+        absurd (cc)
+
+    pub item_due : ItemDue place n IsPaid left l item more v
+    item_due =
+        let after = it.asked.1 in
+        item_due_after after.own after.rest it.asked.0 after.outcome after.is after.costs after.follows after.sum it.asked.2

@@ -1,5 +1,6 @@
--- What `in` before a path takes from a budget, once its left side has been answered.
-use Rattle.std.proofs.Common.{◌≡◌, ◌<◌, ◌+◌, ◌∙◌, ℕ, zero, suc, List, [], ◌∷◌, true, false, Option, Some, None, Ok, length, map, slice_get, inl, inr, refl, sym, subst, arith}
+-- What `in` before a path takes from a budget, once its left side has been answered: what the path costs, and the
+-- comparisons with its members.
+use Rattle.std.proofs.Common.{◌≡◌, ◌+◌, ◌∙◌, ℕ, zero, suc, List, [], ◌∷◌, true, false, Option, Some, None, Ok, length, map, slice_get, inl, inr, ap, refl, sym, subst, arith}
 use Rattle.edm_values.specs.Val.{Val, boolean}
 use Rattle.edm_values.specs.declared.datum.Datum.{Datum}
 use Rattle.edm_values.specs.declared.datum.Datum.TheVariants as datum
@@ -12,32 +13,29 @@ use Rattle.odata_checked_filter.specs.declared.checked_node.NodeKind.{NodeKind}
 use Rattle.odata_filter_operations.specs.Collections.{AreCompared, AreComparedIn, Differs, DiffersBefore, Equals}
 use Rattle.odata_filter_operations.specs.CompareGives.{CompareGives, GivesTruth}
 use Rattle.odata_filter_operations.specs.DatumView.{reading_at}
-use Rattle.odata_filter_operations.specs.FaultView.{fault_outcome}
-use Rattle.odata_filter_operations.specs.Outcome.{Outcome, divides_by_zero, gives, overflow}
-use Rattle.odata_filter_operations.specs.declared.eval_fault.EvalFault.{EvalFault}
+use Rattle.odata_filter_operations.specs.Outcome.{Outcome, gives}
+use Rattle.odata_filter_operations.specs.TextCosts.{comparison_cost}
 use Rattle.odata_signatures.specs.CollectionTyped.{IsComparableWithMembers}
 use Rattle.odata_syntax.specs.Tree.{Tree}
 use Rattle.odata_syntax.specs.declared.binary_operator.ComparisonOperator.{ComparisonOperator}
 use Rattle.odata_syntax.specs.declared.node.Quantifier.{Quantifier}
-use Rattle.odata_meaning.specs.Costs.{AmongCosts, CostAfter, CostThen, CostsNothing, MembersCost, OthersCost, item_cost}
-use Rattle.odata_meaning.specs.Environment.{Environment}
+use Rattle.odata_meaning.specs.Costs.{AmongCosts, CostAfter, CostThen, CostsExactly, MembersCost, OthersCost, item_cost}
 use Rattle.odata_eval.specs.declared.budget.Budget.{Budget}
 use Rattle.odata_eval.specs.declared.stop.EvalStop.{EvalStop}
 use Rattle.odata_eval.specs.private.Place.{HasKind, IsRightOf}
 use Rattle.odata_eval.specs.private.EvalContext.{EndsOnceHere, MeansHere, StandsHere, TypedHere}
 use Rattle.odata_eval.specs.private.ContextModel.{ContextModel, environment_of}
-use Rattle.odata_eval.specs.private.Spending.{CostsHere, SpendsRest, Spent, compared_cost}
-use Rattle.odata_eval.specs.private.WalkAnswer.{AnswersAtPlace, AnswersDatum}
-use Rattle.odata_meaning.proofs.costs.WithoutLambdas.{among_free}
-use Rattle.odata_eval.proofs.spending.Budgets.{spent_same, takes_nothing}
-use Rattle.odata_eval.proofs.spending.Free.{path_plain_type, plain_here}
-use Rattle.odata_eval.proofs.spending.Splits.{SplitWith, follows, rest_spends}
+use Rattle.odata_eval.specs.private.Spending.{CostsHere, SpendsAt, SpendsRest, Spent, Takes, member_due, members_due, path_due, stored_cost}
+use Rattle.odata_eval.specs.private.WalkAnswer.{AnswersDatum}
+use Rattle.odata_eval.proofs.spending.Budgets.{spent_first, spent_same, spent_then}
+use Rattle.odata_eval.proofs.spending.Splits.{Faults, SplitWith, fault_rest, follows, rest_spends}
+use Rattle.odata_eval.proofs.spending.TextCosts.{value_cost}
 use Rattle.odata_eval.proofs.walking.Children.{two_children}
 use Rattle.odata_eval.proofs.walking.Extents.{stops_there}
 use Rattle.odata_eval.proofs.walking.Operands.{no_number}
 use Rattle.odata_eval.proofs.walking.Parts.{by_kind}
 
--- ---- how many members are compared
+-- ---- what comparisons with members cost
 
 -- a member that is equal asks for no more, another one for the others
 rest_equal : (o : Outcome) (Fact : Type 0) (Others : ℕ → Type 0) (rest : ℕ) → GivesTruth Fact o → Fact → CostThen o (OthersCost Quantifier.Any Others) rest → rest ≡ 0
@@ -50,59 +48,73 @@ rest_differs (gives (boolean false)) Fact Others rest whether fails costs = cost
 rest_differs (gives (boolean true)) Fact Others rest whether fails costs = absurd (fails (whether.0 refl))
 rest_differs _ Fact Others rest whether fails costs = absurd whether
 
-module _ (slots : Slots) (type : ExprType) (member : SingleType) (left : Datum) where
-  -- what members cost of which each counts
+-- the first member's is due before that of the others
+later_sum : (a b c d : ℕ) → a ≡ b + c → a + d ≡ b + (c + d)
+later_sum a b c d is = omega (arith, is)
+
+first_due : (each : ℕ) (left : Datum) (found : Value) (more : List Value) (count : ℕ) → members_due each left (found ∷ more) (suc count) ≡ each + stored_cost left found + members_due each left more count
+first_due each left found more zero = omega arith
+first_due each left found more (suc count) =
+    later_sum (members_due each left (found ∷ more) (suc count)) (each + stored_cost left found) (members_due each left more count) (member_due each left (slice_get more count))
+    (first_due each left found more count)
+
+module _ (slots : Slots) (type : ExprType) (member : SingleType) (each : ℕ) (left : Datum) where
+  abbrev LeftVal : Val
+  LeftVal = datum_val (reading_at slots type) left
+
   abbrev Counted : List Value → ℕ → Type 0
-  Counted held = MembersCost 1 Quantifier.Any (CompareGives ComparisonOperator.Eq (datum_val (reading_at slots type) left)) (λ v. CostsNothing) (items_of slots.properties member (map val_of held))
+  Counted held =
+      MembersCost each Quantifier.Any (CompareGives ComparisonOperator.Eq LeftVal) (λ v. CostsExactly (comparison_cost LeftVal v)) (items_of slots.properties member (map val_of held))
 
-  one_more : (n own rest more k : ℕ) → n ≡ 1 + more → more ≡ own + rest → own ≡ 0 → rest ≡ k → n ≡ k + 1
-  one_more n own rest more k a b c d = omega (arith, a, b, c, d)
+  own_cost : (found : Value) (own : ℕ) → own ≡ comparison_cost LeftVal (val_of found slots.properties (single member)) → own ≡ stored_cost left found
+  own_cost found own is = is ∙ value_cost slots (reading_at slots type) (single member) left found
 
-  next_place : (n place : ℕ) → n ≡ place + 1 + 1 → n ≡ suc place + 1
-  next_place n place is = omega (arith, is)
+  one_more : (n more own rest cost k : ℕ) → n ≡ each + more → more ≡ own + rest → own ≡ cost → rest ≡ k → n ≡ each + cost + k
+  one_more n more own rest cost k a b c d = omega (arith, a, b, c, d)
 
-  counted_equal : (found : Value) (more : List Value) → Equals left found → (n : ℕ) → Counted (found ∷ more) n → n ≡ 1
+  counted_equal : (found : Value) (more : List Value) → Equals left found → (n : ℕ) → Counted (found ∷ more) n → n ≡ members_due each left (found ∷ more) 1
   counted_equal found more equals n costs =
       let after = costs.1 in
       let none = rest_equal after.outcome _ (Counted more) after.rest after.is.1 (equals slots type (single member)) after.follows in
-      one_more n after.own after.rest costs.0 0 costs.2 after.sum after.costs none
+      one_more n costs.0 after.own after.rest (stored_cost left found) 0 costs.2 after.sum (own_cost found after.own after.costs) none ∙ sym (first_due each left found more 0)
 
-  counted_differs : (found : Value) (more : List Value) → Differs left found → (k : ℕ) → ((m : ℕ) → Counted more m → m ≡ k) → (n : ℕ) → Counted (found ∷ more) n → n ≡ k + 1
-  counted_differs found more differs k others n costs =
+  counted_differs : (found : Value) (more : List Value) → Differs left found → (count : ℕ) → ((m : ℕ) → Counted more m → m ≡ members_due each left more count) → (n : ℕ) → Counted (found ∷ more) n
+      → n ≡ members_due each left (found ∷ more) (suc count)
+  counted_differs found more differs count others n costs =
       let after = costs.1 in
       let rest = others after.rest (rest_differs after.outcome _ (Counted more) after.rest after.is.1 (differs slots type (single member)) after.follows) in
-      one_more n after.own after.rest costs.0 k costs.2 after.sum after.costs rest
+      one_more n costs.0 after.own after.rest (stored_cost left found) (members_due each left more count) costs.2 after.sum (own_cost found after.own after.costs) rest
+      ∙ sym (first_due each left found more count)
 
-  counted_to : (held : List Value) (place : ℕ) (found : Value) → slice_get held place ≡ Some found → Equals left found → DiffersBefore left held place → (n : ℕ) → Counted held n → n ≡ place + 1
+  counted_to : (held : List Value) (place : ℕ) (found : Value) → slice_get held place ≡ Some found → Equals left found → DiffersBefore left held place → (n : ℕ) → Counted held n → n ≡ members_due each left held (suc place)
   counted_to [] place found at equals before n costs = absurd (cc)
   counted_to (v ∷ more) zero found at equals before n costs =
       let is : v ≡ found = cc in
       counted_equal v more (subst (Equals left) (sym is) equals) n costs
   counted_to (v ∷ more) (suc place) found at equals before n costs =
-      next_place n place (counted_differs v more (before 0 (omega arith) v refl) (place + 1)
-      (counted_to more place found at equals (λ k within other there. before (suc k) (let w = within in omega (arith, w)) other there)) n costs)
+      counted_differs v more (before 0 (omega arith) v refl) (suc place)
+      (counted_to more place found at equals (λ k within other there. before (suc k) (let w = within in omega (arith, w)) other there)) n costs
 
-  counted_all : (held : List Value) → ((k : ℕ) (found : Value) → slice_get held k ≡ Some found → Differs left found) → (n : ℕ) → Counted held n → n ≡ length held
+  counted_all : (held : List Value) → ((k : ℕ) (found : Value) → slice_get held k ≡ Some found → Differs left found) → (n : ℕ) → Counted held n → n ≡ members_due each left held (length held)
   counted_all [] none n costs = costs
-  counted_all (v ∷ more) none n costs =
-      let one : n ≡ length more + 1 = counted_differs v more (none 0 v refl) (length more) (counted_all more (λ k found there. none (suc k) found there)) n costs in
-      omega (arith, one)
+  counted_all (v ∷ more) none n costs = counted_differs v more (none 0 v refl) (length more) (counted_all more (λ k found there. none (suc k) found there)) n costs
 
-  counted : (held : List Value) (count : ℕ) → AreCompared left held count → (n : ℕ) → Counted held n → n ≡ count
+  as_many : (held : List Value) (n k count : ℕ) → n ≡ members_due each left held k → count ≡ k → n ≡ members_due each left held count
+  as_many held n k count is same = is ∙ ap (members_due each left held) (sym same)
+
+  next_one : (count place : ℕ) → count ≡ place + 1 → count ≡ suc place
+  next_one count place is = omega (arith, is)
+
+  counted : (held : List Value) (count : ℕ) → AreCompared left held count → (n : ℕ) → Counted held n → n ≡ members_due each left held count
   counted held count (inl first) n costs =
       let it = first.0 in
-      counted_to held it.place it.found it.stands_at it.equals it.earlier n costs ∙ sym first.1
-  counted held count (inr all) n costs = counted_all held all.0 n costs ∙ sym all.1
+      as_many held n (suc it.place) count (counted_to held it.place it.found it.stands_at it.equals it.earlier n costs) (next_one count it.place first.1)
+  counted held count (inr all) n costs = as_many held n (length held) count (counted_all held all.0 n costs) all.1
 
-  counted_in : (path : Datum) (count : ℕ) → AreComparedIn left path count → (n : ℕ) → AmongCosts 1 (datum_val (reading_at slots type) left) (datum_val (reading_at slots (collection member)) path) n → n ≡ count
-  counted_in datum.Null count are n costs = costs ∙ sym are
+  counted_in : (path : Datum) (count : ℕ) → AreComparedIn left path count → (n : ℕ) → AmongCosts each LeftVal (datum_val (reading_at slots (collection member)) path) n → n ≡ path_due each left path count
+  counted_in datum.Null count are n costs = costs
   counted_in (datum.List held) count are n costs = counted held.now count are n costs
   counted_in _ count are n costs = absurd costs
-
-  compared_due : (environment : Environment) (path : Datum) (count : ℕ) → AreComparedIn left path count → (n : ℕ)
-      → AmongCosts (item_cost environment) (datum_val (reading_at slots type) left) (datum_val (reading_at slots (collection member)) path) n → n ≡ compared_cost environment count
-  compared_due [] path count are n costs = among_free (datum_val (reading_at slots type) left) (datum_val (reading_at slots (collection member)) path) n costs
-  compared_due (innermost ∷ others) path count are n costs = counted_in path count are n costs
 
 -- ---- the path and its members
 
@@ -141,44 +153,33 @@ module _ (context : ContextModel) (place : ℕ) (here : HasKind context.list pla
       })
       whole_last whole whole_stands whole_cost whole_costs)
 
-  path_sum : (n own rest k : ℕ) → n ≡ own + rest → own ≡ 0 → rest ≡ k → n ≡ k
-  path_sum n own rest k a b c = omega (arith, a, b, c)
-
   -- a comparison with each member up to one that is equal
   due_of : (s t : ExprType) → IsComparableWithMembers s t → (path : Datum) (count : ℕ) → AreComparedIn left path count → (n : ℕ)
-      → AmongCosts (item_cost (environment_of context)) (LeftAs s) (datum_val (reading_at (slots_of context.row.schema) t) path) n → n ≡ compared_cost (environment_of context) count
-  due_of s (collection member) alike path count are n costs = compared_due (slots_of context.row.schema) s member left (environment_of context) path count are n costs
+      → AmongCosts (item_cost (environment_of context)) (LeftAs s) (datum_val (reading_at (slots_of context.row.schema) t) path) n → n ≡ path_due (item_cost (environment_of context)) left path count
+  due_of s (collection member) alike path count are n costs = counted_in (slots_of context.row.schema) s member (item_cost (environment_of context)) left path count are n costs
   due_of s _ alike path count are n costs = absurd alike
 
-  pub path_spends : (path : Datum) → AnswersDatum context right_place (Ok path) → (count : ℕ) → AreComparedIn left path count → (old new : Budget) (stop : Option EvalStop)
-      → Spent stop old new (compared_cost (environment_of context) count) → SpendsRest context place old None new stop
-  path_spends path second count are old new stop spent = path_rest old new stop
+  path_sum : (n own rest due : ℕ) → n ≡ own + rest → rest ≡ due → n ≡ own + due
+  path_sum n own rest due a b = omega (arith, a, b)
+
+  pub path_spends : (path : Datum) → AnswersDatum context right_place (Ok path) → (count : ℕ) → AreComparedIn left path count → (old mid new : Budget) (stop : Option EvalStop)
+      → SpendsAt context right_place old mid None → Spent stop mid new (path_due (item_cost (environment_of context)) left path count) → SpendsRest context place old None new stop
+  path_spends path second count are old mid new stop spends spent = path_rest old new stop
       (λ last tree s t rest stands typed alike after.
       let made = datum_val (reading_at (slots_of context.row.schema) t) path in
       let means = second.of_tree last tree t stands typed in
       let once = ends tree t typed in
-      let free = plain_here context tree t typed (path_plain_type s t alike) after.own after.costs in
+      let own : Takes old mid after.own = spends.of_tree last tree after.own stands after.costs in
       let due = due_of s t alike path count are after.rest
       (follows after.outcome (gives made) (AmongCosts (item_cost (environment_of context)) (LeftAs s)) after.rest (once.only after.outcome after.is ∙ sym (once.only (gives made) means)) after.follows) in
-      spent_same stop old new (compared_cost (environment_of context) count) rest (path_sum rest after.own after.rest (compared_cost (environment_of context) count) after.sum free due) spent)
+      let all = path_due (item_cost (environment_of context)) left path count in
+      spent_same stop old new (after.own + all) rest (path_sum rest after.own after.rest all after.sum due) (spent_then stop old mid new after.own all own spent))
 
-  -- a fault of the path ends it
-  some_fault : (fault : EvalFault) → AnswersAtPlace context right_place (λ type. fault_outcome fault) → (last : ℕ) (path : Tree) (s t : ExprType) (rest : ℕ) → StandsHere context right_place last path
-      → TypedHere context path t → IsComparableWithMembers s t → PathCosts s path rest → (budget : Budget) → Spent (Some (EvalStop.Fault fault)) budget budget rest
-  some_fault EvalFault.Overflow faults last path s t rest stands typed alike after budget =
-      let means : MeansHere context path overflow = faults.of_tree last path t stands typed in
-      let once = ends path t typed in
-      let free = plain_here context path t typed (path_plain_type s t alike) after.own after.costs in
-      let none : after.rest ≡ 0 = follows after.outcome overflow (AmongCosts (item_cost (environment_of context)) (LeftAs s)) after.rest (once.only after.outcome after.is ∙ sym (once.only overflow means)) after.follows in
-      spent_same (Some (EvalStop.Fault EvalFault.Overflow)) budget budget 0 rest (path_sum rest after.own after.rest 0 after.sum free none) (takes_nothing budget)
-  some_fault EvalFault.DivideByZero faults last path s t rest stands typed alike after budget =
-      let means : MeansHere context path divides_by_zero = faults.of_tree last path t stands typed in
-      let once = ends path t typed in
-      let free = plain_here context path t typed (path_plain_type s t alike) after.own after.costs in
-      let none : after.rest ≡ 0 = follows after.outcome divides_by_zero (AmongCosts (item_cost (environment_of context)) (LeftAs s)) after.rest (once.only after.outcome after.is ∙ sym (once.only divides_by_zero means)) after.follows in
-      spent_same (Some (EvalStop.Fault EvalFault.DivideByZero)) budget budget 0 rest (path_sum rest after.own after.rest 0 after.sum free none) (takes_nothing budget)
-  some_fault EvalFault.Memory faults last path s t rest stands typed alike after budget = tt
-
-  pub path_faults : (fault : EvalFault) → AnswersAtPlace context right_place (λ type. fault_outcome fault) → (budget : Budget) → SpendsRest context place budget None budget (Some (EvalStop.Fault fault))
-  path_faults fault faults budget = path_rest budget budget (Some (EvalStop.Fault fault))
-      (λ last path s t rest stands typed alike after. some_fault fault faults last path s t rest stands typed alike after budget)
+  -- the path stopped
+  pub path_stops : (stop : EvalStop) → Faults context right_place stop → (old new : Budget) → SpendsAt context right_place old new (Some stop) → SpendsRest context place old None new (Some stop)
+  path_stops stop faults old new spends = path_rest old new (Some stop)
+      (λ last tree s t rest stands typed alike after.
+      spent_same (Some stop) old new (after.own + after.rest) rest after.sum
+      (spent_first stop old new after.own after.rest
+      (fault_rest context ends right_place last tree (inl stands) stop faults after.outcome after.is (AmongCosts (item_cost (environment_of context)) (LeftAs s)) after.rest after.follows)
+      (spends.of_tree last tree after.own stands after.costs)))

@@ -177,6 +177,16 @@ module _ (context : ContextModel) where
   fault_stays ends place (EvalStop.Fault EvalFault.Memory) faults n it fault same known = absurd (known (let e : fault ≡ EvalFault.Memory = cc in e))
   fault_stays ends place EvalStop.TooCostly faults n it fault same known = absurd (cc)
 
+  -- after an operand that stopped nothing is asked for
+  pub fault_rest : EndsOnceHere context → (place last : ℕ) (operand : Tree) → OperandHere context place last operand → (stop : EvalStop) → Faults place stop → (outcome : Outcome) → MeansHere context operand outcome
+      → (GoesOn : Val → ℕ → Type 0) (rest : ℕ) → CostThen outcome GoesOn rest → (fault : EvalFault) → stop ≡ EvalStop.Fault fault → ¬ (fault ≡ EvalFault.Memory) → rest ≡ 0
+  fault_rest ends place last operand stands (EvalStop.Fault EvalFault.Overflow) faults outcome is GoesOn rest costs fault same known =
+      fault_follows EvalFault.Overflow outcome overflow GoesOn rest refl (fault_ends ends place last operand stands EvalFault.Overflow overflow refl faults outcome is) costs
+  fault_rest ends place last operand stands (EvalStop.Fault EvalFault.DivideByZero) faults outcome is GoesOn rest costs fault same known =
+      fault_follows EvalFault.DivideByZero outcome divides_by_zero GoesOn rest refl (fault_ends ends place last operand stands EvalFault.DivideByZero divides_by_zero refl faults outcome is) costs
+  fault_rest ends place last operand stands (EvalStop.Fault EvalFault.Memory) faults outcome is GoesOn rest costs fault same known = absurd (known (let e : fault ≡ EvalFault.Memory = cc in e))
+  fault_rest ends place last operand stands EvalStop.TooCostly faults outcome is GoesOn rest costs fault same known = absurd (cc)
+
   pub first_stops : EndsOnceHere context → (place : ℕ) (class : WalkClass) → ¬ (class ≡ WalkClass.Leaf) → IsClassAt context.list class place → (stop : EvalStop) → Faults (place + 1) stop
       → (budget : Budget) → SpendsRest context place budget (Some stop) budget (Some stop)
   first_stops ends place class inner is stop faults budget start first = record {

@@ -40,7 +40,7 @@ argument_read r s kind (datum.Sparse held) is = absurd is
 argument_read r s kind (datum.List held) is = absurd is
 argument_read r s kind _ is = refl
 
-read_all : (r s : Reading) (answer : Datum) (values : List Val) (answers : List Datum) (kinds : List ArgumentKind)
+pub read_all : (r s : Reading) (answer : Datum) (values : List Val) (answers : List Datum) (kinds : List ArgumentKind)
     → AreArguments kinds (datum_val r answer ∷ values) → ((others : List ArgumentKind) → AreArguments others values → values ≡ map (datum_val s) answers)
     → datum_val r answer ∷ values ≡ datum_val s answer ∷ map (datum_val s) answers
 read_all r s answer values answers [] are rest = absurd are
@@ -175,11 +175,11 @@ module _ (context : ContextModel) where
 
   module _ (names : OneName) (place : ℕ) (function : Function) (here : HasKind context.list place (NodeKind.Call function)) (own : ℕ) (is_own : IsStopOf context.list place own) where
     -- what the call takes, of whatever tree it stands for
-    typed_call : (asked : List ℕ) (types : List ExprType) (type : ExprType) → IsNamed function asked → CallTyped asked types type → FunctionTyped function types type
+    pub typed_call : (asked : List ℕ) (types : List ExprType) (type : ExprType) → IsNamed function asked → CallTyped asked types type → FunctionTyped function types type
     typed_call asked types type named typed =
         subst (λ (f : Function). FunctionTyped f types type) (names typed.function function asked typed.named named) typed.typed
 
-    own_stop : (stop : ℕ) (tree : Tree) → StandsHere context place stop tree → stop ≡ own
+    pub own_stop : (stop : ℕ) (tree : Tree) → StandsHere context place stop tree → stop ≡ own
     own_stop stop tree stands = stops_there context place stop own tree stands is_own
 
     some_argument : (i j : ℕ) (trees : Trees) (types : List ExprType) → 1 ≤ length types → TypedAll context trees types → StandsAll context i j trees → ¬ (i ≡ j)

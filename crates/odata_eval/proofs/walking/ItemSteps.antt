@@ -42,9 +42,11 @@ use Rattle.odata_meaning.proofs.meaning.Kinds.{comparable_values}
 use Rattle.odata_meaning.proofs.meaning.Reads.{number_comparable, read_has}
 use Rattle.odata_eval.proofs.walking.CallSteps.{behind_first}
 use Rattle.odata_eval.proofs.walking.Compared.{ComparedAnyhow}
-use Rattle.odata_meaning.specs.Costs.{CostAfter, CostThen, OthersCost, item_cost}
+use Rattle.odata_meaning.specs.Costs.{CostAfter, OthersCost, item_cost}
+use Rattle.odata_filter_operations.specs.TextCosts.{comparison_cost}
 use Rattle.odata_eval.specs.private.Spending.{CostsHere}
 use Rattle.odata_eval.proofs.spending.Items.{ComparedHere, ItemDue, ItemsCostHere, ItemsDue, SideItem, due_first, item_due, one_compared}
+use Rattle.odata_eval.proofs.spending.Splits.{follows}
 use Rattle.odata_eval.proofs.walking.Parts.{by_kind}
 use Rattle.odata_eval.proofs.walking.Operands.{AloneHere, HasNone, resolved_here, resolved_operand, resolved_reports, no_number}
 use Rattle.odata_eval.proofs.walking.Extents.{further, items_further_in, operand_further, operand_stops_there, stops_here, stops_there}
@@ -67,8 +69,8 @@ later_places count At o first (inl decides) = inl (record {
 })
 later_places count At o first (inr passes) = inr (record { each = earlier_passes At count first passes.each; is = passes.is })
 
-paid_sum : (n own paid first item_own later : ℕ) → n ≡ own + (paid + (first + (item_own + later))) → n ≡ own + (paid + (first + item_own) + later)
-paid_sum n own paid first item_own later sum = omega (arith, sum)
+paid_sum : (n own paid first item_own compared later : ℕ) → n ≡ own + (paid + (first + (item_own + (compared + later)))) → n ≡ own + (paid + (first + (item_own + compared)) + later)
+paid_sum n own paid first item_own compared later sum = omega (arith, sum)
 
 module _ (context : ContextModel) where
   -- the outcomes of the items beside an operand, by their indexes
@@ -266,15 +268,22 @@ module _ (context : ContextModel) where
       of_number = λ number stop tree type there. absurd (rest.none number stop tree there);
     }
 
-    -- what is due where the next item is equal
-    pub record EqualDue (n : ℕ) : Type 0 where
+    -- the next item with its value, what is due of it, and what its comparison costs
+    pub record NextDue (n cost : ℕ) : Type 0 where
       pub left_tree : Tree
       pub left_val : Val
       pub tree : Tree
       pub more : Trees
+      pub value : Val
       pub last : ℕ
       pub stands : OperandHere context at last tree
-      pub due : ItemDue context place n IsPaid left_tree left_val tree more (gives (boolean true))
+      pub cost_is : cost ≡ comparison_cost left_val value
+      pub due : ItemDue context place n IsPaid left_tree left_val tree more value
+
+    -- after one that is equal nothing is due
+    pub record EqualDue (n cost : ℕ) : Type 0 where
+      pub next : NextDue n cost
+      pub none : next.due.later ≡ 0
 
     module _ (types_one : OneType) (item : Datum) (answers : AnswersAtPlace context at (λ type. Some (gives (left_at item type)))) (remains : ¬ (at ≡ own)) where
       -- the next item, with its type and its value
@@ -351,6 +360,36 @@ module _ (context : ContextModel) where
           let next = next_in ends part.tree it in
           anyhow ComparisonOperator.Eq left item (reading_at slots it.left_type) (reading_at slots next.type_of) l r next.equality
 
+      module _ (ends : EndsOnceHere context) (cost : ℕ) (costs_so : (l r : Reading) → cost ≡ comparison_cost (datum_val l left) (datum_val r item)) where
+        -- what is due of the next item
+        due_in : (whole left_tree : Tree) (left_type : ExprType) (next : NextItem left_tree left_type whole) (n : ℕ) → CostsHere context whole n
+            → ItemDue context place n IsPaid left_tree (left_at left left_type) next.tree next.more (left_at item next.type_of)
+        due_in whole left_tree left_type next n costs =
+            item_due context ends place n IsPaid left_tree (left_at left left_type) next.tree next.more (left_at item next.type_of) next.means next.side (next.due n costs)
+
+        cost_at : (s t : ExprType) → cost ≡ comparison_cost (left_at left s) (left_at item t)
+        cost_at s t = costs_so (reading_at (slots_of context.row.schema) s) (reading_at (slots_of context.row.schema) t)
+
+        due_of : (whole : Tree) (it : ItemsLeft place own at IsPaid left whole) (n : ℕ) → CostsHere context whole n → NextDue n cost
+        due_of whole it n costs =
+            let next = next_in ends whole it in
+            record {
+              left_tree = it.left_tree;
+              left_val = left_at left it.left_type;
+              tree = next.tree;
+              more = next.more;
+              value = left_at item next.type_of;
+              last = next.stand.middle;
+              stands = resolved_here context (TypedHere context it.left_tree) next.tree at next.stand.middle next.stand.left;
+              cost_is = cost_at it.left_type next.type_of;
+              due = due_in whole it.left_tree it.left_type next n costs;
+            }
+
+        pub next_due : (last : ℕ) (whole : Tree) (n : ℕ) → StandsHere context place last whole → CostsHere context whole n → NextDue n cost
+        next_due last whole n stands costs =
+            let has = has_type context place last whole stands in
+            due_of whole (rest.of_tree last whole has.0 stands has.1) n costs
+
       module _ (ends : EndsOnceHere context) (answer : Bool) (compared : (l r : Reading) → IsTrue answer ↔ AreEqual (datum_val l left) (datum_val r item)) where
         abbrev compared_at : (s t : ExprType) → IsTrue answer ↔ AreEqual (left_at left s) (left_at item t)
         compared_at s t = compared (reading_at (slots_of context.row.schema) s) (reading_at (slots_of context.row.schema) t)
@@ -381,42 +420,38 @@ module _ (context : ContextModel) where
             → Passes Quantifier.Any (After (ItemHere OtherSide (more_trees tree more) 0) (CompareGives ComparisonOperator.Eq l))
         passes_item OtherSide l v tree more means equality differs = (boolean false, differs_here OtherSide l v tree more means equality differs, tt)
 
-        -- what is due of the next item, whose outcome as compared is known
-        next_due : (whole left_tree : Tree) (left_type : ExprType) (next : NextItem left_tree left_type whole) (o : Outcome)
-            → ComparedHere context (TypedHere context left_tree) (left_at left left_type) next.tree o → (n : ℕ) → CostsHere context whole n
-            → ItemDue context place n IsPaid left_tree (left_at left left_type) next.tree next.more o
-        next_due whole left_tree left_type next o is n costs =
-            item_due context place n IsPaid left_tree (left_at left left_type) next.tree next.more o
-            (λ p of_p. one_compared context ends left_tree (left_at left left_type) next.tree next.side p o of_p is) (next.due n costs)
-
-        module _ (IsPaidNow : ℕ → Type 0)
-            (pays : (last : ℕ) (tree : Tree) (paid cost : ℕ) → OperandHere context at last tree
-            → CostsHere context tree cost → IsPaid paid → IsPaidNow (paid + (item_cost (environment_of context) + cost))) where
+        module _ (cost : ℕ) (costs_so : (l r : Reading) → cost ≡ comparison_cost (datum_val l left) (datum_val r item)) (IsPaidNow : ℕ → Type 0)
+            (pays : (last : ℕ) (tree : Tree) (paid own_cost : ℕ) → OperandHere context at last tree
+            → CostsHere context tree own_cost → IsPaid paid → IsPaidNow (paid + (item_cost (environment_of context) + (own_cost + cost)))) where
           -- so it has been paid for
-          whole_due : (o : Outcome) → (whole : Tree) (left_tree : Tree) (left_type : ExprType) (next : NextItem left_tree left_type whole)
-              → ComparedHere context (TypedHere context left_tree) (left_at left left_type) next.tree o
-              → ((later : ℕ) → CostThen o (OthersCost Quantifier.Any (ItemsCostHere context (TypedHere context left_tree) (left_at left left_type) next.more)) later
-              → ItemsCostHere context (TypedHere context left_tree) (left_at left left_type) next.more later)
+          whole_due : (whole left_tree : Tree) (left_type : ExprType) (next : NextItem left_tree left_type whole)
+              → ComparedHere context (TypedHere context left_tree) (left_at left left_type) next.tree (gives (boolean false))
               → (n : ℕ) → CostsHere context whole n → ItemsDue context place n IsPaidNow left_tree (left_at left left_type) next.more
-          whole_due o whole left_tree left_type next is goes n costs =
-              let it = next_due whole left_tree left_type next o is n costs in
+          whole_due whole left_tree left_type next differs n costs =
+              let l = left_at left left_type in
+              let it = due_in ends cost costs_so whole left_tree left_type next n costs in
+              let first = item_cost (environment_of context) in
+              let same = one_compared context ends left_tree l next.tree next.side it.outcome (gives (boolean false)) it.compared differs in
+              let sum : n ≡ it.own + (it.paid + (first + (it.item_own + (cost + it.later)))) =
+              subst (λ (k : ℕ). n ≡ it.own + (it.paid + (first + (it.item_own + (k + it.later))))) (sym (cost_at ends cost costs_so left_type next.type_of)) it.sum in
               record {
                 stop = it.stop;
                 stands = it.stands;
                 own = it.own;
                 costs = it.costs;
-                paid = it.paid + (item_cost (environment_of context) + it.item_own);
+                paid = it.paid + (first + (it.item_own + cost));
                 due = it.later;
-                sum = paid_sum n it.own it.paid (item_cost (environment_of context)) it.item_own it.later it.sum;
+                sum = paid_sum n it.own it.paid first it.item_own cost it.later sum;
                 is_paid = pays next.stand.middle next.tree it.paid it.item_own (resolved_here context (TypedHere context left_tree) next.tree at next.stand.middle next.stand.left) it.item_costs it.is_paid;
-                asked = goes it.later it.follows_item;
+                asked = follows it.outcome (gives (boolean false)) (OthersCost Quantifier.Any (ItemsCostHere context (TypedHere context left_tree) l next.more)) it.later same it.follows_item;
               }
 
-        pub item_differs : answer ≡ false → PartStands context place → (stop : ℕ) → IsStopOf context.list at stop → (IsPaidNow : ℕ → Type 0)
-            → ((last : ℕ) (tree : Tree) (paid cost : ℕ) → OperandHere context at last tree
-            → CostsHere context tree cost → IsPaid paid → IsPaidNow (paid + (item_cost (environment_of context) + cost)))
+        pub item_differs : answer ≡ false → PartStands context place → (stop : ℕ) → IsStopOf context.list at stop → (cost : ℕ)
+            → ((l r : Reading) → cost ≡ comparison_cost (datum_val l left) (datum_val r item)) → (IsPaidNow : ℕ → Type 0)
+            → ((last : ℕ) (tree : Tree) (paid own_cost : ℕ) → OperandHere context at last tree
+            → CostsHere context tree own_cost → IsPaid paid → IsPaidNow (paid + (item_cost (environment_of context) + (own_cost + cost))))
             → ListLeft place own stop IsPaidNow left
-        item_differs so part stop is_stop IsPaidNow pays =
+        item_differs so part stop is_stop cost costs_so IsPaidNow pays =
             let has = has_type context place part.stop part.tree part.stands in
             let there = rest.of_tree part.stop part.tree has.0 part.stands has.1 in
             let found = next_in ends part.tree there in
@@ -447,27 +482,27 @@ module _ (context : ContextModel) where
                     beside = next.beside;
                     takes = next.takes;
                     left_means = it.left_means;
-                    due = whole_due IsPaidNow pays (gives (boolean false)) tree it.left_tree it.left_type next (differs_here (TypedHere context it.left_tree) l v next.tree next.more next.means next.equality differs) (λ later costs. costs);
+                    due = whole_due cost costs_so IsPaidNow pays tree it.left_tree it.left_type next (differs_here (TypedHere context it.left_tree) l v next.tree next.more next.means next.equality differs);
                     goes = λ o given. next.goes o (later_places (length (list_of_trees next.more)) (λ k. After (ItemHere (TypedHere context it.left_tree) (more_trees next.tree next.more) k) (CompareGives ComparisonOperator.Eq l)) o
                         (passes_item (TypedHere context it.left_tree) l v next.tree next.more next.means next.equality differs) given);
                   };
             }
 
-        -- what is due where the next item is equal
-        pub equal_due : answer ≡ true → (last : ℕ) (whole : Tree) (n : ℕ) → StandsHere context place last whole → CostsHere context whole n → EqualDue n
-        equal_due so last whole n stands costs =
+        -- an equal one asks for no more
+        pub equal_due : answer ≡ true → (cost : ℕ) → ((l r : Reading) → cost ≡ comparison_cost (datum_val l left) (datum_val r item))
+            → (last : ℕ) (whole : Tree) (n : ℕ) → StandsHere context place last whole → CostsHere context whole n → EqualDue n cost
+        unfolding due_of due_in
+        equal_due so cost costs_so last whole n stands costs =
             let has = has_type context place last whole stands in
             let it = rest.of_tree last whole has.0 stands has.1 in
             let next = next_in ends whole it in
             let l = left_at left it.left_type in
             let v = left_at item next.type_of in
             let equal : AreEqual l v = (compared_at it.left_type next.type_of).0 so in
+            let due = due_in ends cost costs_so whole it.left_tree it.left_type next n costs in
+            let yes : ComparedHere context (TypedHere context it.left_tree) l next.tree (gives (boolean true)) = (gives v, (next.means, (next.equality, ((λ yes. equal), (λ same. refl))))) in
+            let same = one_compared context ends it.left_tree l next.tree next.side due.outcome (gives (boolean true)) due.compared yes in
             record {
-              left_tree = it.left_tree;
-              left_val = l;
-              tree = next.tree;
-              more = next.more;
-              last = next.stand.middle;
-              stands = resolved_here context (TypedHere context it.left_tree) next.tree at next.stand.middle next.stand.left;
-              due = next_due whole it.left_tree it.left_type next (gives (boolean true)) (gives v, (next.means, (next.equality, ((λ yes. equal), (λ same. refl))))) n costs;
+              next = due_of ends cost costs_so whole it n costs;
+              none = follows due.outcome (gives (boolean true)) (OthersCost Quantifier.Any (ItemsCostHere context (TypedHere context it.left_tree) l next.more)) due.later same due.follows_item;
             }

@@ -45,7 +45,7 @@ list_kept slots (collection t) shape all = (_, ap (λ (f : ValAtType). f slots.p
 without : Contents
 without = record { fields_are = λ name. absent; items_are = no_items }
 
-kept_contents : (slots : Slots) (type : ExprType) (value : Value) → (contents : Contents) × (val_of value slots.properties type ≡ kept_val contents value)
+pub kept_contents : (slots : Slots) (type : ExprType) (value : Value) → (contents : Contents) × (val_of value slots.properties type ≡ kept_val contents value)
 kept_contents slots type Null = (without, plain_is slots type Null null refl)
 kept_contents slots type (BoolValue b) = (without, plain_is slots type (BoolValue b) (boolean b) refl)
 kept_contents slots type (Int n) = (without, plain_is slots type (Int n) (whole n) refl)

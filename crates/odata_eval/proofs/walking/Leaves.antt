@@ -125,7 +125,7 @@ module _ (context : ContextModel) (place : ℕ) where
   now_means (more_trees argument more) [] o few typed given = absurd typed
   now_means (more_trees argument more) (type ∷ types) o few typed given = absurd (omega arith)
 
-  now_takes : (asked : List ℕ) (types : List ExprType) (type : ExprType) → IsNamed Function.Now asked → CallTyped asked types type → length types ≤ 0
+  pub now_takes : (asked : List ℕ) (types : List ExprType) (type : ExprType) → IsNamed Function.Now asked → CallTyped asked types type → length types ≤ 0
   now_takes asked types type named called =
       let is : called.function ≡ Function.Now = only_now called.function (called.named ∙ sym named) in
       let most : length types ≤ length (row_of Function.Now).arguments =

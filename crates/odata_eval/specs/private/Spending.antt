@@ -1,7 +1,10 @@
 -- For private clauses: what an answer leaves of a budget.
-use Rattle.std.specs.Prelude.{◌≡◌, ◌<◌, ◌+◌, ℕ, ℤ, List, [], ◌∷◌, Option, Some, None, Result, Ok, Err, Bool, true, false}
+use Rattle.std.specs.Prelude.{◌≡◌, ◌<◌, ◌+◌, ◌/◌, ℕ, zero, suc, ℤ, List, Option, Some, None, Result, Ok, Err, Bool, true, false}
+use Rattle.std.specs.Prelude.{length, slice_get, string_bytes}
+use Rattle.std.specs.Cow.{cow_str_bytes}
 use Rattle.edm_values.specs.declared.datum.Datum.{Datum}
-use Rattle.edm_values.specs.declared.value.Value.{Value}
+use Rattle.edm_values.specs.declared.datum.Datum.TheVariants as datum
+use Rattle.edm_values.specs.declared.value.Value.{Value, Text}
 use Rattle.csdl_schema.specs.ExprType.{ExprType}
 use Rattle.csdl_schema.specs.SchemaModel.{slots_of, type_name_at}
 use Rattle.edm_entities.specs.Row.{value_of}
@@ -10,14 +13,14 @@ use Rattle.odata_syntax.specs.declared.node.Quantifier.{Quantifier}
 use Rattle.odata_filter_operations.specs.declared.eval_fault.EvalFault.{EvalFault}
 use Rattle.odata_meaning.specs.Costs.{Costs, MembersCost}
 use Rattle.odata_meaning.specs.CostsOnce.{CostsOnce}
-use Rattle.odata_meaning.specs.Environment.{Environment, bound_over}
+use Rattle.odata_meaning.specs.Environment.{bound_over}
 use Rattle.odata_eval.specs.declared.budget.Budget.{Budget}
 use Rattle.odata_eval.specs.declared.frames.RangeVariable.{RangeVariable}
 use Rattle.odata_eval.specs.declared.stop.EvalStop.{EvalStop}
 use Rattle.odata_eval.specs.private.Lambda.{AnswersMembers, BodyMeans, BodyStands, type_of_variable, vals_of}
 use Rattle.odata_eval.specs.private.EvalContext.{NumberHere, StandsHere, TypedHere}
 use Rattle.odata_eval.specs.private.ContextModel.{ContextModel, environment_of}
-use Rattle.odata_eval.specs.private.WalkAnswer.{AnswersDatum, AnswersTruth}
+use Rattle.odata_eval.specs.private.WalkAnswer.{AnswersDatum, AnswersNumber, AnswersTruth}
 
 -- ---- answers that may stop for their cost, of which nothing is said then
 
@@ -30,6 +33,11 @@ abbrev pub CountedDatum : ContextModel → ℕ → Result Datum EvalStop → Typ
 CountedDatum context place (Ok datum) = AnswersDatum context place (Ok datum)
 CountedDatum context place (Err (EvalStop.Fault fault)) = AnswersDatum context place (Err fault)
 CountedDatum context place (Err EvalStop.TooCostly) = Unit {0}
+
+abbrev pub CountedNumber : ContextModel → ℕ → Result (Option ℤ) EvalStop → Type 0
+CountedNumber context place (Ok number) = AnswersNumber context place (Ok number)
+CountedNumber context place (Err (EvalStop.Fault fault)) = AnswersNumber context place (Err fault)
+CountedNumber context place (Err EvalStop.TooCostly) = Unit {0}
 
 abbrev pub CountedMembers :
     ContextModel → ℕ → Quantifier → RangeVariable → List Value → Result (Option Bool) EvalStop → Type 0
@@ -57,16 +65,35 @@ datum_stop answer = stopped_by answer
 abbrev pub datum_as_stop : Result Datum EvalFault → Result Datum EvalStop
 datum_as_stop answer = as_stop answer
 
+abbrev pub number_as_stop : Result (Option ℤ) EvalFault → Result (Option ℤ) EvalStop
+number_as_stop answer = as_stop answer
+
 -- so many were taken from the budget
 abbrev pub Takes : Budget → Budget → ℕ → Type 0
 Takes Budget.Unbounded Budget.Unbounded n = Unit {0}
 Takes (Budget.Left old) (Budget.Left new) n = old ≡ n + new
 Takes _ _ n = ⊥
 
--- so many members were compared: within a body one for each
-abbrev pub compared_cost : Environment → ℕ → ℕ
-compared_cost [] count = 0
-compared_cost (innermost ∷ others) count = count
+-- what it costs to compare a value with a stored one: texts what both cost
+abbrev pub stored_cost : Datum → Value → ℕ
+stored_cost (datum.Text t) (Text s) = length (cow_str_bytes t) / 1024 + length (string_bytes s) / 1024
+stored_cost left found = 0
+
+-- with a member of a collection, which counts within a body
+abbrev pub member_due : ℕ → Datum → Option Value → ℕ
+member_due each left None = 0
+member_due each left (Some found) = each + stored_cost left found
+
+-- with so many members, from the first one on
+abbrev pub members_due : ℕ → Datum → List Value → ℕ → ℕ
+members_due each left members zero = 0
+members_due each left members (suc count) =
+    members_due each left members count + member_due each left (slice_get members count)
+
+-- null has none
+abbrev pub path_due : ℕ → Datum → Datum → ℕ → ℕ
+path_due each left (datum.List members) count = members_due each left members.now count
+path_due each left path count = 0
 
 -- the budget had fewer
 abbrev pub HasFewer : Budget → ℕ → Type 0

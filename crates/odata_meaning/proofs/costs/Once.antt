@@ -5,7 +5,7 @@ use Rattle.odata_syntax.specs.declared.node.Quantifier.{Quantifier}
 use Rattle.odata_syntax.specs.declared.binary_operator.LogicalOperator.{LogicalOperator}
 use Rattle.odata_syntax.specs.declared.binary_operator.BinaryOperator.{BinaryOperator}
 use Rattle.odata_filter_operations.specs.Outcome.{Outcome, gives, overflow, divides_by_zero}
-use Rattle.odata_meaning.specs.Costs.{CostAfter, CostThen, CostsMore, CostsNothing, OthersCost, RightCosts}
+use Rattle.odata_meaning.specs.Costs.{CostAfter, CostThen, CostsExactly, CostsMore, CostsNothing, OthersCost, RightCosts}
 
 -- exactly one number
 pub record Once (Is : ℕ → Type 0) : Type 0 where
@@ -21,6 +21,9 @@ pub record EndsAlone (Gives : Outcome → Type 0) : Type 0 where
 
 pub nothing_once : Once CostsNothing
 nothing_once = record { number = 0; is = refl; only = λ other is. is }
+
+pub exactly_once : (cost : ℕ) → Once (CostsExactly cost)
+exactly_once cost = record { number = cost; is = refl; only = λ other is. is }
 
 pub more_once : (first : ℕ) (More : ℕ → Type 0) → Once More → Once (CostsMore first More)
 more_once first More more = record {

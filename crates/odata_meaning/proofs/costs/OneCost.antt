@@ -1,5 +1,5 @@
 -- A tree that has a type has exactly one cost.
-use Rattle.std.proofs.Common.{◌≡◌, ℕ, List, [], ◌∷◌, Some, None, refl, sym, subst}
+use Rattle.std.proofs.Common.{◌≡◌, ◌∙◌, ℕ, List, [], ◌∷◌, Some, None, ap, refl, sym, subst}
 use Rattle.serde_json.specs.Data.{Data}
 use Rattle.edm_values.specs.MomentParts.{IsMoment, MomentParts}
 use Rattle.edm_values.specs.Val.{Val, null, items, Vals, no_items, item}
@@ -14,27 +14,29 @@ use Rattle.odata_syntax.specs.declared.binary_operator.ComparisonOperator.{Compa
 use Rattle.odata_syntax.specs.Tree.{Tree, node, literal, it, name, count, negation, logical_not, binary, in_list, in_path, call, any_item, lambda, Trees, no_trees, more_trees}
 use Rattle.odata_syntax.specs.Tree as tree
 use Rattle.odata_syntax.specs.declared.node.Quantifier.{Quantifier}
+use Rattle.odata_signatures.specs.CallTyped.{CallTyped}
+use Rattle.odata_signatures.specs.declared.function.Function.{Function}
 use Rattle.odata_signatures.specs.CollectionTyped.{IsComparableWithMembers}
 use Rattle.odata_signatures.specs.ExprTypes.{boolean_type}
 use Rattle.odata_signatures.specs.Typed.{AreTyped, Typed}
 use Rattle.odata_filter_operations.specs.CompareGives.{CompareGives}
-use Rattle.odata_filter_operations.specs.LeftFirst.{After}
 use Rattle.odata_filter_operations.specs.Outcome.{Outcome, gives}
-use Rattle.odata_meaning.specs.Costs.{AmongCosts, ArgumentsCost, CostAfter, Costs, CostsNothing, ItemsCost, LambdaCosts, MembersCost, OthersCost, RightCosts, item_cost}
+use Rattle.odata_meaning.specs.Costs.{AmongCosts, ArgumentsCost, CostAfter, Costs, CostsExactly, ItemsCost, LambdaCosts, MembersCost, OthersCost, RightCosts, item_cost}
 use Rattle.odata_meaning.specs.CostsOnce.{CostsOnceOnEntities}
 use Rattle.odata_meaning.specs.EndsOnce.{IsOutcomeOf, TypedEndsOnce}
 use Rattle.odata_meaning.specs.Environment.{Environment, IsFitting, bound_over, scope_of}
 use Rattle.odata_meaning.specs.Means.{Means}
 use Rattle.odata_meaning.specs.OneByOne.{ItemAlone}
-use Rattle.odata_meaning.proofs.costs.Once.{EndsAlone, Once, after_once, more_once, nothing_once, others_once, right_once}
+use Rattle.odata_filter_operations.specs.TextCosts.{CallCosts, call_cost, comparison_cost, operator_cost}
+use Rattle.odata_meaning.proofs.costs.Once.{EndsAlone, Once, after_once, exactly_once, more_once, nothing_once, others_once, right_once}
 use Rattle.odata_meaning.proofs.meaning.AllTrees.{AllTrees, AllTyped}
 use Rattle.odata_meaning.proofs.meaning.CompareEnds.{compare_ends}
-use Rattle.odata_meaning.proofs.meaning.Ends.{Ends, after_ends}
+use Rattle.odata_meaning.proofs.meaning.Ends.{Ends}
 use Rattle.odata_meaning.proofs.meaning.FormsEnd.{ItemEnds}
 use Rattle.odata_meaning.specs.private.LawsBelow.{OneEach, SomeEach}
 use Rattle.odata_meaning.proofs.meaning.OneLeaf.{CompareGives-one}
 use Rattle.odata_meaning.proofs.meaning.OneMeaning.{items_one}
-use Rattle.odata_meaning.proofs.meaning.OneStep.{After-one, AtMostOne}
+use Rattle.odata_meaning.proofs.meaning.OneStep.{AtMostOne}
 use Rattle.odata_meaning.proofs.meaning.Progress.{ReadsHave, items_end}
 
 -- a number that is read is of its enumeration
@@ -62,7 +64,8 @@ compared_once one some slots left m l v alike of_l of_v =
 among_once : OneEach → SomeEach → (slots : Slots) (each : ℕ) (left path : ExprType) (l v : Val) → IsComparableWithMembers left path → HasType slots left l → HasType slots path v → Once (AmongCosts each l v)
 among_once one some slots each left (collection m) l null alike of_l of_v = nothing_once
 among_once one some slots each left (collection m) l (items values) alike of_l of_v =
-    members_once each Quantifier.Any (CompareGives ComparisonOperator.Eq l) (λ v. CostsNothing) slots m (λ v of_v. compared_once one some slots left m l v alike of_l of_v) (λ v of_v. nothing_once) values of_v
+    members_once each Quantifier.Any (CompareGives ComparisonOperator.Eq l) (λ v. CostsExactly (comparison_cost l v)) slots m (λ v of_v. compared_once one some slots left m l v alike of_l of_v)
+    (λ v of_v. exactly_once (comparison_cost l v)) values of_v
 among_once one some slots each left (collection m) l _ alike of_l of_v = absurd of_v
 among_once one some slots each left _ l v alike of_l of_v = absurd alike
 
@@ -84,6 +87,16 @@ over_once quantifier BaseTyped Body BodyCosts slots m over one (items values) ha
     }
 over_once quantifier BaseTyped Body BodyCosts slots m over one _ has members = absurd has
 
+-- no two functions have one name
+call_once : OneEach → (asked : List ℕ) (types : List ExprType) (type : ExprType) → CallTyped asked types type → (values : List Val) → Once (CallCosts asked values)
+call_once one asked types type called values = record {
+  number = call_cost called.function values;
+  is = record { function = called.function; named = called.named; is = refl };
+  only = λ other costs.
+      let same : costs.function ≡ called.function = one.names costs.function called.function asked costs.named called.named in
+      costs.is ∙ ap (λ (f : Function). call_cost f values) same;
+}
+
 module _ (one : OneEach) (some : SomeEach) (all_end : TypedEndsOnce) (slots : Slots) (root : List ℕ) (now : MomentParts) (entity : Val)
     (is_moment : IsMoment now.civil now.offset_minutes) (conforms : HasType slots (single (structured root)) entity) where
   ends : (environment : Environment) → IsFitting slots environment → (tree : Tree) (type : ExprType) → Typed slots root (scope_of environment) tree type
@@ -99,20 +112,22 @@ module _ (one : OneEach) (some : SomeEach) (all_end : TypedEndsOnce) (slots : Sl
       let end = all_end slots root now entity environment tree type is_moment conforms fitting typed in
       subst (λ (o : Outcome). IsOutcomeOf slots type o) (sym (end.only (gives v) means)) end.of_type
 
-  -- an item compared with the left value
-  compared : (environment : Environment) (OtherSide : ExprType → Type 0) (left : ExprType) (l : Val) (listed_item : Tree) → HasType slots left l
+  -- an item, and its value compared with the left value
+  item_alone : (environment : Environment) (OtherSide : ExprType → Type 0) (left : ExprType) (listed_item : Tree)
       → AtMostOne (ItemAlone slots root now entity environment OtherSide listed_item) → ItemEnds slots left (ItemAlone slots root now entity environment OtherSide listed_item)
-      → EndsAlone (After (ItemAlone slots root now entity environment OtherSide listed_item) (CompareGives ComparisonOperator.Eq l))
-  compared environment OtherSide left l listed_item of_l alone ends_so =
-      let Equal : Val → Outcome → Type 0 = CompareGives ComparisonOperator.Eq l in
-      let Item : Outcome → Type 0 = ItemAlone slots root now entity environment OtherSide listed_item in
-      let end = after_ends slots slots ends_so.0 boolean_type Item Equal ends_so.2
-      (λ w of_w. compare_ends some slots ComparisonOperator.Eq left ends_so.0 boolean_type l w (ends_so.1, refl) of_l of_w) in
-      record {
-        outcome = end.0;
-        is = end.1.0;
-        only = λ other is. After-one Item Equal alone (CompareGives-one ComparisonOperator.Eq l) other end.0 is end.1.0;
-      }
+      → EndsAlone (ItemAlone slots root now entity environment OtherSide listed_item)
+  item_alone environment OtherSide left listed_item alone ends_so =
+      let end = ends_so.2 in
+      record { outcome = end.0; is = end.1.0; only = λ other is. alone other end.0 is end.1.0 }
+
+  item_compared : (environment : Environment) (OtherSide : ExprType → Type 0) (left : ExprType) (l w : Val) (listed_item : Tree) → HasType slots left l
+      → AtMostOne (ItemAlone slots root now entity environment OtherSide listed_item) → ItemEnds slots left (ItemAlone slots root now entity environment OtherSide listed_item)
+      → ItemAlone slots root now entity environment OtherSide listed_item (gives w) → EndsAlone (CompareGives ComparisonOperator.Eq l w)
+  item_compared environment OtherSide left l w listed_item of_l alone ends_so is =
+      let item = ends_so.2 in
+      let of_w : HasType slots ends_so.0 w = subst (λ (o : Outcome). IsOutcomeOf slots ends_so.0 o) (alone item.0 (gives w) item.1.0 is) item.1.1 in
+      let end = compare_ends some slots ComparisonOperator.Eq left ends_so.0 boolean_type l w (ends_so.1, refl) of_l of_w in
+      record { outcome = end.0; is = end.1.0; only = λ other compares. CompareGives-one ComparisonOperator.Eq l w other end.0 compares end.1.0 }
 
   items_once : (environment : Environment) (OtherSide : ExprType → Type 0) (left : ExprType) (l : Val) (listed : Trees) → HasType slots left l
       → AllTrees (λ t. AtMostOne (ItemAlone slots root now entity environment OtherSide t)) listed
@@ -121,10 +136,15 @@ module _ (one : OneEach) (some : SomeEach) (all_end : TypedEndsOnce) (slots : Sl
       → Once (ItemsCost slots root now entity environment OtherSide l listed)
   items_once environment OtherSide left l no_trees of_l alone ends_so once = nothing_once
   items_once environment OtherSide left l (more_trees listed_item more) of_l alone ends_so once =
+      let Others : ℕ → Type 0 = ItemsCost slots root now entity environment OtherSide l more in
       more_once (item_cost environment) _
-      (after_once (After (ItemAlone slots root now entity environment OtherSide listed_item) (CompareGives ComparisonOperator.Eq l)) (Costs slots root now entity environment listed_item)
-      (OthersCost Quantifier.Any (ItemsCost slots root now entity environment OtherSide l more)) (compared environment OtherSide left l listed_item of_l alone.0 ends_so.0) once.0
-      (λ w is. others_once Quantifier.Any (ItemsCost slots root now entity environment OtherSide l more) w (items_once environment OtherSide left l more of_l alone.1 ends_so.1 once.1)))
+      (after_once (ItemAlone slots root now entity environment OtherSide listed_item) (Costs slots root now entity environment listed_item)
+      (λ v. CostAfter (CompareGives ComparisonOperator.Eq l v) (CostsExactly (comparison_cost l v)) (OthersCost Quantifier.Any Others))
+      (item_alone environment OtherSide left listed_item alone.0 ends_so.0) once.0
+      (λ w is.
+      after_once (CompareGives ComparisonOperator.Eq l w) (CostsExactly (comparison_cost l w)) (OthersCost Quantifier.Any Others)
+      (item_compared environment OtherSide left l w listed_item of_l alone.0 ends_so.0 is) (exactly_once (comparison_cost l w))
+      (λ truth told. others_once Quantifier.Any Others truth (items_once environment OtherSide left l more of_l alone.1 ends_so.1 once.1))))
 
   all_end_so : (environment : Environment) → IsFitting slots environment → (trees : Trees) (types : List ExprType) → AreTyped slots root (scope_of environment) trees types
       → AllTyped (λ t type. Ends slots type (Means slots root now entity environment t)) trees types
@@ -133,6 +153,18 @@ module _ (one : OneEach) (some : SomeEach) (all_end : TypedEndsOnce) (slots : Sl
       let end = all_end slots root now entity environment tree type is_moment conforms fitting typed.0 in
       ((end.outcome, (end.related, end.of_type)), all_end_so environment fitting more types typed.1)
   all_end_so environment fitting _ _ typed = absurd typed
+
+  -- arguments one after another, and what follows their values
+  arguments_once : (environment : Environment) → IsFitting slots environment → (trees : Trees) (types : List ExprType) → AreTyped slots root (scope_of environment) trees types
+      → AllTrees (λ t. Once (Costs slots root now entity environment t)) trees → (Goes : List Val → ℕ → Type 0) → ((values : List Val) → Once (Goes values))
+      → Once (ArgumentsCost slots root now entity environment trees Goes)
+  arguments_once environment fitting no_trees [] typed each Goes once = once []
+  arguments_once environment fitting (more_trees tree more) (type ∷ types) typed each Goes once =
+      after_once (Means slots root now entity environment tree) (Costs slots root now entity environment tree)
+      (λ v. ArgumentsCost slots root now entity environment more (λ values. Goes (v ∷ values)))
+      (ends environment fitting tree type typed.0) each.0
+      (λ v is. arguments_once environment fitting more types typed.1 each.1 (λ values. Goes (v ∷ values)) (λ values. once (v ∷ values)))
+  arguments_once environment fitting _ _ typed each Goes once = absurd typed
 
   mutual
     pub tree_once : (environment : Environment) → IsFitting slots environment → (tree : Tree) (type : ExprType) → Typed slots root (scope_of environment) tree type
@@ -147,9 +179,12 @@ module _ (one : OneEach) (some : SomeEach) (all_end : TypedEndsOnce) (slots : Sl
     tree_once environment fitting (node start stop (any_item base)) type typed = tree_once environment fitting base typed.operand typed.operand_typed
     tree_once environment fitting (node start stop (binary operator left right)) type typed =
         after_once (Means slots root now entity environment left) (Costs slots root now entity environment left)
-        (λ l. RightCosts operator l (Costs slots root now entity environment right))
+        (λ l. RightCosts operator l (CostAfter (Means slots root now entity environment right) (Costs slots root now entity environment right) (λ r. CostsExactly (operator_cost operator l r))))
         (ends environment fitting left typed.left typed.left_typed) (tree_once environment fitting left typed.left typed.left_typed)
-        (λ l is. right_once operator l (Costs slots root now entity environment right) (tree_once environment fitting right typed.right typed.right_typed))
+        (λ l is. right_once operator l (CostAfter (Means slots root now entity environment right) (Costs slots root now entity environment right) (λ r. CostsExactly (operator_cost operator l r)))
+        (after_once (Means slots root now entity environment right) (Costs slots root now entity environment right) (λ r. CostsExactly (operator_cost operator l r))
+        (ends environment fitting right typed.right typed.right_typed) (tree_once environment fitting right typed.right typed.right_typed)
+        (λ r of_right. exactly_once (operator_cost operator l r))))
     tree_once environment fitting (node start stop (tree.has left right)) type typed =
         after_once (Means slots root now entity environment left) (Costs slots root now entity environment left) (λ l. Costs slots root now entity environment right)
         (ends environment fitting left typed.left typed.left_typed) (tree_once environment fitting left typed.left typed.left_typed)
@@ -173,7 +208,9 @@ module _ (one : OneEach) (some : SomeEach) (all_end : TypedEndsOnce) (slots : Sl
         (items_end some slots slots (reads_have slots) root now entity environment left typed.left typed.left_typed listed typed.items typed.items_typed typed.makes.1
         (all_end_so environment fitting listed typed.items typed.items_typed))
         (trees_once environment fitting listed typed.items typed.items_typed))
-    tree_once environment fitting (node start stop (call asked arguments)) type typed = arguments_once environment fitting arguments typed.types typed.arguments_typed
+    tree_once environment fitting (node start stop (call asked arguments)) type typed =
+        arguments_once environment fitting arguments typed.types typed.arguments_typed (trees_once environment fitting arguments typed.types typed.arguments_typed) (CallCosts asked)
+        (call_once one asked typed.types type typed.call_typed)
     tree_once environment fitting (node start stop (lambda quantifier base variable body)) type typed =
         let BaseTyped : ExprType → Type 0 = Typed slots root (scope_of environment) base in
         let Body : ExprType → Val → Outcome → Type 0 = λ t v. Means slots root now entity (bound_over environment variable t v) body in
@@ -192,14 +229,6 @@ module _ (one : OneEach) (some : SomeEach) (all_end : TypedEndsOnce) (slots : Sl
     trees_once environment fitting no_trees [] typed = tt
     trees_once environment fitting (more_trees tree more) (type ∷ types) typed = (tree_once environment fitting tree type typed.0, trees_once environment fitting more types typed.1)
     trees_once environment fitting _ _ typed = absurd typed
-
-    arguments_once : (environment : Environment) → IsFitting slots environment → (trees : Trees) (types : List ExprType) → AreTyped slots root (scope_of environment) trees types
-        → Once (ArgumentsCost slots root now entity environment trees)
-    arguments_once environment fitting no_trees [] typed = nothing_once
-    arguments_once environment fitting (more_trees tree more) (type ∷ types) typed =
-        after_once (Means slots root now entity environment tree) (Costs slots root now entity environment tree) (λ v. ArgumentsCost slots root now entity environment more)
-        (ends environment fitting tree type typed.0) (tree_once environment fitting tree type typed.0) (λ v is. arguments_once environment fitting more types typed.1)
-    arguments_once environment fitting _ _ typed = absurd typed
 
 -- so on entities
 pub costs_once_on_entities : OneEach → SomeEach → TypedEndsOnce

@@ -121,7 +121,7 @@ small_zero = fits_signed_from_abs w32 (pos 0) (lit< tt)
 pub one : IntValue (codes "1") (pos 1)
 one = (inr (inr (numeral_one, refl)), fits_one)
 
-none : IntValue (codes "0") (pos 0)
+pub none : IntValue (codes "0") (pos 0)
 none = (inr (inr (numeral_zero, refl)), fits_zero)
 
 pub divides : (root : List ℕ) (now : MomentParts) (tags : Val) (environment : Environment) → Means tagged_slots root now (tagged tags) environment one_div_zero divides_by_zero

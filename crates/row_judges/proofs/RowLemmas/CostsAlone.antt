@@ -1,6 +1,6 @@
 -- A cost looks at an entity under the names in the tree alone.
 use mathlib.Core.Path.{fun_ext}
-use Rattle.std.proofs.Common.{◌≡◌, ℕ, List, refl, ap, ◌∙◌}
+use Rattle.std.proofs.Common.{◌≡◌, ℕ, List, ◌∷◌, refl, ap, ◌∙◌}
 use Rattle.edm_values.specs.MomentParts.{MomentParts}
 use Rattle.edm_values.specs.Val.{Val}
 use Rattle.csdl_schema.specs.ExprType.{ExprType}
@@ -11,9 +11,9 @@ use Rattle.odata_syntax.specs.declared.node.Quantifier.TheVariants.{Any}
 use Rattle.odata_signatures.specs.Reads.{ReadsNumber}
 use Rattle.odata_signatures.specs.Typed.{Typed}
 use Rattle.odata_filter_operations.specs.CompareGives.{CompareGives}
-use Rattle.odata_filter_operations.specs.LeftFirst.{After}
 use Rattle.odata_filter_operations.specs.Outcome.{Outcome}
-use Rattle.odata_meaning.specs.Costs.{AmongCosts, ArgumentsCost, CostAfter, Costs, CostsMore, ItemsCost, LambdaCosts, OthersCost, RightCosts, item_cost}
+use Rattle.odata_filter_operations.specs.TextCosts.{CallCosts, comparison_cost, operator_cost}
+use Rattle.odata_meaning.specs.Costs.{AmongCosts, ArgumentsCost, CostAfter, Costs, CostsExactly, CostsMore, ItemsCost, LambdaCosts, OthersCost, RightCosts, item_cost}
 use Rattle.odata_meaning.specs.Environment.{Environment, bound_over, scope_of}
 use Rattle.odata_meaning.specs.Means.{Means}
 use Rattle.odata_meaning.specs.NameGives.{StepGives}
@@ -42,9 +42,11 @@ module _ (slots : Slots) (root : List ℕ) (now : MomentParts) (e f : Val) (Pass
     costs_same environment (node start stop (negation operand)) none = costs_same environment operand none
     costs_same environment (node start stop (logical_not operand)) none = costs_same environment operand none
     costs_same environment (node start stop (binary operator left right)) none =
-        let Right : (ℕ → Type 0) → Val → ℕ → Type 0 = λ X l. RightCosts operator l X in
-        left_first environment left (λ l. RightCosts operator l (Costs slots root now e environment right)) (λ l. RightCosts operator l (Costs slots root now f environment right)) none.0 (costs_same environment left none.0)
-        (ap Right (costs_same environment right none.1))
+        let Operator : Val → Val → ℕ → Type 0 = λ l r. CostsExactly (operator_cost operator l r) in
+        let AfterE : Val → ℕ → Type 0 = λ l. CostAfter (Means slots root now e environment right) (Costs slots root now e environment right) (Operator l) in
+        let AfterF : Val → ℕ → Type 0 = λ l. CostAfter (Means slots root now f environment right) (Costs slots root now f environment right) (Operator l) in
+        left_first environment left (λ l. RightCosts operator l (AfterE l)) (λ l. RightCosts operator l (AfterF l)) none.0 (costs_same environment left none.0)
+        (fun_ext (λ (l : Val). ap (λ (X : ℕ → Type 0). RightCosts operator l X) (left_first environment right (Operator l) (Operator l) none.1 (costs_same environment right none.1) refl)))
     costs_same environment (node start stop (has left right)) none =
         let Right : (ℕ → Type 0) → Val → ℕ → Type 0 = λ X l. X in
         left_first environment left (λ l. Costs slots root now e environment right) (λ l. Costs slots root now f environment right) none.0 (costs_same environment left none.0)
@@ -58,7 +60,7 @@ module _ (slots : Slots) (root : List ℕ) (now : MomentParts) (e f : Val) (Pass
         let L = Typed slots root (scope_of environment) left in
         left_first environment left (λ l. ItemsCost slots root now e environment L l listed) (λ l. ItemsCost slots root now f environment L l listed) none.0 (costs_same environment left none.0)
         (fun_ext (λ (l : Val). items_same environment L l listed none.1))
-    costs_same environment (node start stop (call asked arguments)) none = arguments_cost environment arguments none
+    costs_same environment (node start stop (call asked arguments)) none = arguments_cost environment arguments none (CallCosts asked)
     costs_same environment (node start stop (any_item base)) none = costs_same environment base none
     costs_same environment (node start stop (lambda quantifier base variable body)) none =
         let B = Typed slots root (scope_of environment) base in
@@ -75,22 +77,22 @@ module _ (slots : Slots) (root : List ℕ) (now : MomentParts) (e f : Val) (Pass
         → ItemsCost slots root now e environment OtherSide l listed ≡ ItemsCost slots root now f environment OtherSide l listed
     items_same environment OtherSide l no_trees none = refl
     items_same environment OtherSide l (more_trees tree more) none =
-        let Item : (Outcome → Type 0) → Outcome → Type 0 = λ M. After (UnlessRead (ReadsNumber slots OtherSide tree) GivesMember M) (CompareGives Eq l) in
+        let Item : (Outcome → Type 0) → Outcome → Type 0 = λ M. UnlessRead (ReadsNumber slots OtherSide tree) GivesMember M in
+        let Compared : (ℕ → Type 0) → Val → ℕ → Type 0 = λ X v. CostAfter (CompareGives Eq l v) (CostsExactly (comparison_cost l v)) (λ w. OthersCost Any X w) in
         let M = Means slots root now e environment tree in
         let N = Means slots root now f environment tree in
         let C = Costs slots root now e environment tree in
         let D = Costs slots root now f environment tree in
-        let G : Val → ℕ → Type 0 = λ v. OthersCost Any (ItemsCost slots root now e environment OtherSide l more) v in
-        let H : Val → ℕ → Type 0 = λ v. OthersCost Any (ItemsCost slots root now f environment OtherSide l more) v in
-        let Others : (ℕ → Type 0) → Val → ℕ → Type 0 = λ X v. OthersCost Any X v in
+        let G : Val → ℕ → Type 0 = Compared (ItemsCost slots root now e environment OtherSide l more) in
+        let H : Val → ℕ → Type 0 = Compared (ItemsCost slots root now f environment OtherSide l more) in
         ap (λ (X : ℕ → Type 0). CostsMore (item_cost environment) X)
         (after_same (Item M) (Item N) C D G H (ap (λ (X : Outcome → Type 0). Item X) (means_same slots root now e f Passed same environment tree none.0)) (costs_same environment tree none.0)
-        (ap Others (items_same environment OtherSide l more none.1)))
+        (ap Compared (items_same environment OtherSide l more none.1)))
 
-    arguments_cost : (environment : Environment) (trees : Trees) → TreesNameNone Passed trees
-        → ArgumentsCost slots root now e environment trees ≡ ArgumentsCost slots root now f environment trees
-    arguments_cost environment no_trees none = refl
-    arguments_cost environment (more_trees tree more) none =
-        let Later : (ℕ → Type 0) → Val → ℕ → Type 0 = λ X v. X in
-        left_first environment tree (λ v. ArgumentsCost slots root now e environment more) (λ v. ArgumentsCost slots root now f environment more) none.0 (costs_same environment tree none.0)
-        (ap Later (arguments_cost environment more none.1))
+    arguments_cost : (environment : Environment) (trees : Trees) → TreesNameNone Passed trees → (Goes : List Val → ℕ → Type 0)
+        → ArgumentsCost slots root now e environment trees Goes ≡ ArgumentsCost slots root now f environment trees Goes
+    arguments_cost environment no_trees none Goes = refl
+    arguments_cost environment (more_trees tree more) none Goes =
+        left_first environment tree (λ v. ArgumentsCost slots root now e environment more (λ values. Goes (v ∷ values)))
+        (λ v. ArgumentsCost slots root now f environment more (λ values. Goes (v ∷ values))) none.0 (costs_same environment tree none.0)
+        (fun_ext (λ (v : Val). arguments_cost environment more none.1 (λ values. Goes (v ∷ values))))

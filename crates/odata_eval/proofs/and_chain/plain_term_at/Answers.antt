@@ -8,7 +8,7 @@ use Rattle.odata_eval.proofs.walking.Spines.{typed_part}
 use Rattle.odata_eval.proofs.and_chain.plain_term_at.Goals as goal
 
 pub returns-in-Some : goal.returns-in-Some
-returns-in-Some c = c.in-Some.ensures.answers
+returns-in-Some c = c.in-Some.ensures
 
 pub node-requires : goal.node-requires
 node-requires c = part_inside c.args.context.now c.args.place (typed_part c.args.context.now c.args.place IsBooleanOrNull c.requires.stands)
@@ -35,4 +35,4 @@ arithmetic_compared_at-requires c = record {
 }
 
 pub returns-then-is_class_at : goal.returns-then-is_class_at
-returns-then-is_class_at c = c.arithmetic_compared_at.ensures.answers
+returns-then-is_class_at c = c.arithmetic_compared_at.ensures

@@ -1,4 +1,4 @@
-use Rattle.std.proofs.Common.{ap, ◌∙◌, ◌≡◌, ◌<◌, ◌≤◌, ◌-◌, Bool, false, true, Option, None, Some, Ok, Err, arith, subst, sym}
+use Rattle.std.proofs.Common.{ap, ◌∙◌, ◌≡◌, ◌<◌, ◌≤◌, ◌-◌, Bool, false, true, Option, None, Some, Ok, Err, arith, subst}
 use Rattle.std.proofs.lemmas.Result.{err_from_is_err_and}
 use Rattle.odata_syntax.specs.declared.binary_operator.LogicalOperator.{LogicalOperator}
 use Rattle.odata_filter_operations.specs.TruthGives.{truth_val}
@@ -52,7 +52,7 @@ loop-at-preserved-in-Some-true c =
     let above : 0 < l.at = omega arith in
     let is : c.in-Some-true.field-0 ≡ true = cc in
     let term : AnswersTruth c.args.context.now c.right_of-right_place.result (Ok (Some true)) =
-    subst (λ (b : Bool). AnswersTruth c.args.context.now c.right_of-right_place.result (Ok (Some b))) is c.in-Some-true.ensures.answers in
+    subst (λ (b : Bool). AnswersTruth c.args.context.now c.right_of-right_place.result (Ok (Some b))) is c.in-Some-true.ensures in
     let within : l.at ≤ c.args.remaining.ands = l.invariant.within in
     record {
       within = omega arith;
@@ -66,7 +66,7 @@ returns-in-Some-false c =
     let above : 0 < l.at = omega arith in
     let is : c.in-Some-false.field-0 ≡ false = cc in
     let term : AnswersTruth c.args.context.now c.right_of-right_place.result (Ok (Some false)) =
-    subst (λ (b : Bool). AnswersTruth c.args.context.now c.right_of-right_place.result (Ok (Some b))) is c.in-Some-false.ensures.answers in
+    subst (λ (b : Bool). AnswersTruth c.args.context.now c.right_of-right_place.result (Ok (Some b))) is c.in-Some-false.ensures in
     false_answers c.args.context.now c.args.remaining.ands c.requires.remaining.ands c.requires.stands l.at above l.invariant.within c.right_of-right_place.result c.right_of-right_place.ensures l.left l.invariant.undecided l.invariant.answers term
 
 pub loop-at-preserved-in-Some-true-right : goal.loop-at-preserved-in-Some-true-right

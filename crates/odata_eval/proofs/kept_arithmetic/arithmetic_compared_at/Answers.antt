@@ -1,12 +1,8 @@
-use Rattle.std.proofs.Common.{◌≡◌, ℕ, ◌<◌, ◌≤◌, ◌+◌, ◌-◌, None, Ok, arith, length, rules, subst}
+use Rattle.std.proofs.Common.{◌≡◌, ℕ, ◌<◌, ◌≤◌, ◌+◌, ◌-◌, Ok, arith, length, rules, subst}
 use Rattle.odata_syntax.specs.declared.binary_operator.BinaryOperator.{BinaryOperator}
 use Rattle.odata_eval.specs.declared.walk_operand.WalkClass.{WalkClass}
 use Rattle.odata_eval.specs.private.Place.{IsClassAt, PartStands}
 use Rattle.odata_eval.specs.private.WalkAnswer.{AnswersNumber}
-use Rattle.odata_eval.proofs.spending.Budgets.{takes_nothing}
-use Rattle.odata_eval.proofs.spending.Free.{leaf_free, numeric_free}
-use Rattle.odata_eval.proofs.spending.Rests.{free_spends}
-use Rattle.odata_eval.proofs.spending.Wholes.{both_free}
 use Rattle.odata_eval.proofs.walking.AndChains.{left_side}
 use Rattle.odata_eval.proofs.walking.Compared.{numbers_compared}
 use Rattle.odata_eval.proofs.walking.Extents.{right_part, right_there}
@@ -70,18 +66,10 @@ loop-at-preserved c =
       answers = c.in-Some-calculation_at.ensures;
     }
 
-pub returns-clause-answers : goal.returns-clause-answers
-returns-clause-answers c =
+pub returns : goal.returns
+returns c =
     let here = c.requires.here in
     let left : AnswersNumber c.args.context.now (c.args.place + 1) (Ok c.loop-at.number) =
     at_top (λ k. AnswersNumber c.args.context.now k (Ok c.loop-at.number)) c.loop-at.at (c.args.place + 1) c.loop-at.invariant.above (omega arith) c.loop-at.invariant.answers in
     numbers_compared c.args.context.now c.args.place c.args.comparison here c.right_of-right_place.result c.right_of-right_place.ensures c.loop-at.number c.in-Some.right c.compare_numbers.result
     left c.in-Some.ensures.answers c.compare_numbers.ensures
-
-pub returns-clause-spent : goal.returns-clause-spent
-returns-clause-spent c = λ budget.
-    free_spends c.args.context.now c.args.place None budget
-    (both_free c.args.context.now c.args.place (BinaryOperator.Comparison c.args.comparison) c.requires.here c.right_of-right_place.result c.right_of-right_place.ensures
-    (numeric_free c.args.context.now (c.args.place + 1) c.requires.numeric)
-    (leaf_free c.args.context.now c.right_of-right_place.result c.in-Some.ensures.leaf))
-    (takes_nothing budget)

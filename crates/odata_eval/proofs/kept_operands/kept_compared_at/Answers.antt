@@ -30,14 +30,8 @@ length_compared_at-requires c = record {
   call = there_found (λ (f : CheckedNode). f.kind ≡ NodeKind.Call c.in-Call.function) (slice_get c.args.context.now.list.nodes (c.args.place + 1)) c.node.result.now c.node.ensures c.in-Call.is;
 }
 
-pub returns-in-Member-clause-answers : goal.returns-in-Member-clause-answers
-returns-in-Member-clause-answers c = c.step_compared_at.ensures.answers
+pub returns-in-Member : goal.returns-in-Member
+returns-in-Member c = c.step_compared_at.ensures
 
-pub returns-in-Member-clause-spent : goal.returns-in-Member-clause-spent
-returns-in-Member-clause-spent c = c.step_compared_at.ensures.spent
-
-pub returns-in-Length-clause-answers : goal.returns-in-Length-clause-answers
-returns-in-Length-clause-answers c = c.length_compared_at.ensures.answers
-
-pub returns-in-Length-clause-spent : goal.returns-in-Length-clause-spent
-returns-in-Length-clause-spent c = c.length_compared_at.ensures.spent
+pub returns-in-Length : goal.returns-in-Length
+returns-in-Length c = c.length_compared_at.ensures

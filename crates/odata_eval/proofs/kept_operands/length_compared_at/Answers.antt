@@ -1,9 +1,5 @@
-use Rattle.std.proofs.Common.{◌+◌, None, arith}
+use Rattle.std.proofs.Common.{◌+◌, arith}
 use Rattle.odata_syntax.specs.declared.binary_operator.BinaryOperator.{BinaryOperator}
-use Rattle.odata_eval.proofs.spending.Budgets.{takes_nothing}
-use Rattle.odata_eval.proofs.spending.Free.{called_free, leaf_free}
-use Rattle.odata_eval.proofs.spending.Rests.{free_spends}
-use Rattle.odata_eval.proofs.spending.Wholes.{both_free}
 use Rattle.odata_eval.proofs.walking.AndChains.{left_side}
 use Rattle.odata_eval.proofs.walking.Compared.{numbers_compared}
 use Rattle.odata_eval.proofs.walking.Extents.{right_further, right_part, right_there}
@@ -31,16 +27,8 @@ found_number_at-requires c = record {
   stands = right_part c.args.context.now c.args.place (BinaryOperator.Comparison c.args.comparison) c.requires.here c.requires.stands c.right_of-right_place.result c.right_of-right_place.ensures;
 }
 
-pub returns-clause-answers : goal.returns-clause-answers
-returns-clause-answers c =
+pub returns : goal.returns
+returns c =
     let here = c.requires.here in
     numbers_compared c.args.context.now c.args.place c.args.comparison here c.right_of-right_place.result c.right_of-right_place.ensures c.in-Some.left c.in-Some-found_number_at.right c.compare_numbers.result
     c.in-Some.ensures c.in-Some-found_number_at.ensures.answers c.compare_numbers.ensures
-
-pub returns-clause-spent : goal.returns-clause-spent
-returns-clause-spent c = λ budget.
-    free_spends c.args.context.now c.args.place None budget
-    (both_free c.args.context.now c.args.place (BinaryOperator.Comparison c.args.comparison) c.requires.here c.right_of-right_place.result c.right_of-right_place.ensures
-    (called_free c.args.context.now (c.args.place + 1) c.args.function c.requires.call)
-    (leaf_free c.args.context.now c.right_of-right_place.result c.in-Some-found_number_at.ensures.leaf))
-    (takes_nothing budget)

@@ -1,9 +1,5 @@
-use Rattle.std.proofs.Common.{◌+◌, None, arith}
+use Rattle.std.proofs.Common.{◌+◌, arith}
 use Rattle.odata_syntax.specs.declared.binary_operator.BinaryOperator.{BinaryOperator}
-use Rattle.odata_eval.proofs.spending.Budgets.{takes_nothing}
-use Rattle.odata_eval.proofs.spending.Free.{path_free, step_free}
-use Rattle.odata_eval.proofs.spending.Rests.{free_spends}
-use Rattle.odata_eval.proofs.spending.Wholes.{both_free}
 use Rattle.odata_eval.proofs.walking.AndChains.{left_side}
 use Rattle.odata_eval.proofs.walking.Compared.{kept_compared, may_compare_kept}
 use Rattle.odata_eval.proofs.walking.Extents.{right_further, right_part, right_there}
@@ -35,17 +31,8 @@ compare_kept-requires c =
     may_compare_kept c.args.context.now c.args.place c.args.comparison here c.right_of-right_place.result c.right_of-right_place.ensures c.in-Some.left.now c.in-Some-kept_at.right.now
     c.in-Some.ensures.answers c.in-Some-kept_at.ensures.answers c.ends_once.ensures c.comparisons_are_decided.ensures.any_contents c.requires.stands
 
-pub returns-clause-answers : goal.returns-clause-answers
-returns-clause-answers c =
+pub returns : goal.returns
+returns c =
     let here = c.requires.here in
     kept_compared c.args.context.now c.args.place c.args.comparison here c.right_of-right_place.result c.right_of-right_place.ensures c.in-Some.left.now c.in-Some-kept_at.right.now
     c.in-Some.ensures.answers c.in-Some-kept_at.ensures.answers c.ends_once.ensures c.comparisons_are_decided.ensures.any_contents c.requires.stands c.compare_kept.result c.compare_kept.ensures
-
-pub returns-clause-spent : goal.returns-clause-spent
-returns-clause-spent c = λ budget.
-    free_spends c.args.context.now c.args.place None budget
-    (both_free c.args.context.now c.args.place (BinaryOperator.Comparison c.args.comparison) c.requires.here c.right_of-right_place.result c.right_of-right_place.ensures
-    (step_free c.args.context.now (c.args.place + 1) c.args.slot
-    c.requires.step c.in-Some.ensures.base)
-    (path_free c.args.context.now c.right_of-right_place.result c.in-Some-kept_at.ensures.path))
-    (takes_nothing budget)

@@ -1,19 +1,13 @@
-use Rattle.std.proofs.Common.{◌≡◌, ◌<◌, ◌+◌, None, length, refl, rules, slice_get}
+use Rattle.std.proofs.Common.{◌≡◌, ◌<◌, ◌+◌, length, rules, slice_get}
 use Rattle.odata_checked_filter.specs.declared.checked_node.CheckedNode.{CheckedNode}
 use Rattle.odata_checked_filter.specs.declared.checked_node.NodeKind.{NodeKind}
 use Rattle.odata_syntax.specs.declared.binary_operator.BinaryOperator.{BinaryOperator}
-use Rattle.odata_eval.specs.declared.walk_operand.WalkClass.{WalkClass}
-use Rattle.odata_eval.proofs.spending.Budgets.{takes_nothing}
-use Rattle.odata_eval.proofs.spending.Free.{leaf_free}
-use Rattle.odata_eval.proofs.spending.Rests.{free_spends}
-use Rattle.odata_eval.proofs.spending.Wholes.{both_free}
 use Rattle.odata_eval.proofs.walking.AndChains.{left_side}
 use Rattle.odata_eval.proofs.walking.Compared.{kept_compared, may_compare_kept}
 use Rattle.odata_eval.proofs.walking.Leaves.{literal_answers, literal_within, property_answers, property_within}
 use Rattle.odata_eval.proofs.walking.Extents.{right_part}
 use Rattle.odata_eval.proofs.walking.Operands.{operand_inside}
 use Rattle.odata_eval.proofs.walking.Parts.{part_inside, there_found}
-use Rattle.odata_eval.proofs.walking.Spines.{kind_walks}
 use Rattle.odata_eval.proofs.kept_terms.compared_with_literal.Goals as goal
 
 pub overflow_add-place : goal.overflow_add-place
@@ -54,22 +48,10 @@ compare_kept-requires c =
     (there_found (λ (f : CheckedNode). f.kind ≡ NodeKind.Literal c.in-Literal.kind c.in-Literal.value) (slice_get c.args.context.now.list.nodes c.right_of_property-right_place.result) c.node-2.result.now c.node-2.ensures c.in-Literal.is) c.literal-right.result.now c.literal-right.ensures in
     may_compare_kept c.args.context.now c.args.place c.args.comparison c.requires.here c.right_of_property-right_place.result c.right_of_property-right_place.ensures c.property-left.result.now c.literal-right.result.now left right c.ends_once.ensures c.comparisons_are_decided.ensures.any_contents c.requires.stands
 
-pub returns-clause-answers : goal.returns-clause-answers
-returns-clause-answers c =
+pub returns : goal.returns
+returns c =
     let left = property_answers c.args.context.now (c.args.place + 1) c.in-Property.slot
     (there_found (λ (f : CheckedNode). f.kind ≡ NodeKind.Property c.in-Property.slot) (slice_get c.args.context.now.list.nodes (c.args.place + 1)) c.node.result.now c.node.ensures c.in-Property.is) c.property-left.result.now c.property-left.ensures in
     let right = literal_answers c.args.context.now c.right_of_property-right_place.result c.in-Literal.kind c.in-Literal.value
     (there_found (λ (f : CheckedNode). f.kind ≡ NodeKind.Literal c.in-Literal.kind c.in-Literal.value) (slice_get c.args.context.now.list.nodes c.right_of_property-right_place.result) c.node-2.result.now c.node-2.ensures c.in-Literal.is) c.literal-right.result.now c.literal-right.ensures in
     kept_compared c.args.context.now c.args.place c.args.comparison c.requires.here c.right_of_property-right_place.result c.right_of_property-right_place.ensures c.property-left.result.now c.literal-right.result.now left right c.ends_once.ensures c.comparisons_are_decided.ensures.any_contents c.requires.stands c.compare_kept.result c.compare_kept.ensures
-
-pub returns-clause-spent : goal.returns-clause-spent
-returns-clause-spent c = λ budget.
-    free_spends c.args.context.now c.args.place None budget
-    (both_free c.args.context.now c.args.place (BinaryOperator.Comparison c.args.comparison) c.requires.here c.right_of_property-right_place.result c.right_of_property-right_place.ensures
-    (leaf_free c.args.context.now (c.args.place + 1)
-    (kind_walks c.args.context.now.list (c.args.place + 1) (NodeKind.Property c.in-Property.slot) WalkClass.Leaf refl
-    (there_found (λ (f : CheckedNode). f.kind ≡ NodeKind.Property c.in-Property.slot) (slice_get c.args.context.now.list.nodes (c.args.place + 1)) c.node.result.now c.node.ensures c.in-Property.is)))
-    (leaf_free c.args.context.now c.right_of_property-right_place.result
-    (kind_walks c.args.context.now.list c.right_of_property-right_place.result (NodeKind.Literal c.in-Literal.kind c.in-Literal.value) WalkClass.Leaf refl
-    (there_found (λ (f : CheckedNode). f.kind ≡ NodeKind.Literal c.in-Literal.kind c.in-Literal.value) (slice_get c.args.context.now.list.nodes c.right_of_property-right_place.result) c.node-2.result.now c.node-2.ensures c.in-Literal.is))))
-    (takes_nothing budget)

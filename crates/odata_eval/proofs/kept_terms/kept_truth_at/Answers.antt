@@ -1,18 +1,14 @@
-use Rattle.std.proofs.Common.{◌≡◌, ◌∙◌, None, ap, refl, slice_get}
+use Rattle.std.proofs.Common.{◌≡◌, ◌∙◌, ap, slice_get}
 use Rattle.odata_checked_filter.specs.declared.checked_node.CheckedNode.{CheckedNode}
 use Rattle.odata_checked_filter.specs.declared.checked_node.NodeKind.{NodeKind}
 use Rattle.odata_syntax.specs.declared.binary_operator.BinaryOperator.{BinaryOperator}
 use Rattle.odata_signatures.specs.ExprTypes.{IsBooleanOrNull}
-use Rattle.odata_eval.specs.declared.walk_operand.WalkClass.{WalkClass}
-use Rattle.odata_eval.proofs.spending.Budgets.{takes_nothing}
-use Rattle.odata_eval.proofs.spending.Free.{leaf_free}
-use Rattle.odata_eval.proofs.spending.Rests.{free_spends}
 use Rattle.odata_eval.proofs.walking.AndChains.{kept_answers}
 use Rattle.odata_eval.proofs.walking.KeptValues.{value_kept}
 use Rattle.odata_eval.proofs.walking.Leaves.{property_answers, property_within}
-use Rattle.odata_eval.proofs.walking.Parts.{part_inside, some_always, there_found}
+use Rattle.odata_eval.proofs.walking.Parts.{part_inside, there_found}
 use Rattle.odata_eval.proofs.walking.Readings.{truth_values}
-use Rattle.odata_eval.proofs.walking.Spines.{kind_walks, typed_part}
+use Rattle.odata_eval.proofs.walking.Spines.{typed_part}
 use Rattle.odata_eval.proofs.walking.Operands.{tree_operand}
 use Rattle.odata_eval.proofs.kept_terms.kept_truth_at.Goals as goal
 
@@ -33,22 +29,13 @@ kept_truth-requires c =
     c.property.result.now c.property.ensures)
     truth_values c.ends_once.ensures c.requires.stands
 
-pub returns-in-Property-clause-answers : goal.returns-in-Property-clause-answers
-returns-in-Property-clause-answers c =
+pub returns-in-Property : goal.returns-in-Property
+returns-in-Property c =
     kept_answers c.args.context.now c.args.place c.property.result.now
     (property_answers c.args.context.now c.args.place c.in-Property.slot
     (there_found (λ (f : CheckedNode). f.kind ≡ NodeKind.Property c.in-Property.slot) (slice_get c.args.context.now.list.nodes c.args.place) c.node.result.now c.node.ensures c.in-Property.is)
     c.property.result.now c.property.ensures)
     c.kept_truth.result c.kept_truth.ensures
-
-pub returns-in-Property-clause-spent : goal.returns-in-Property-clause-spent
-returns-in-Property-clause-spent c = λ budget.
-    some_always c.kept_truth.result
-    (free_spends c.args.context.now c.args.place None budget
-    (leaf_free c.args.context.now c.args.place
-    (kind_walks c.args.context.now.list c.args.place (NodeKind.Property c.in-Property.slot) WalkClass.Leaf refl
-    (there_found (λ (f : CheckedNode). f.kind ≡ NodeKind.Property c.in-Property.slot) (slice_get c.args.context.now.list.nodes c.args.place) c.node.result.now c.node.ensures c.in-Property.is)))
-    (takes_nothing budget))
 
 pub compared_with_literal-requires : goal.compared_with_literal-requires
 compared_with_literal-requires c = record {
@@ -57,8 +44,5 @@ compared_with_literal-requires c = record {
       (c.in-Binary.is ∙ ap NodeKind.Binary c.in-Comparison.is);
 }
 
-pub returns-in-Comparison-clause-answers : goal.returns-in-Comparison-clause-answers
-returns-in-Comparison-clause-answers c = c.compared_with_literal.ensures.answers
-
-pub returns-in-Comparison-clause-spent : goal.returns-in-Comparison-clause-spent
-returns-in-Comparison-clause-spent c = c.compared_with_literal.ensures.spent
+pub returns-in-Comparison : goal.returns-in-Comparison
+returns-in-Comparison c = c.compared_with_literal.ensures
