@@ -1,5 +1,5 @@
 -- A refusal of the code, as a fault.
-use Rattle.std.specs.Prelude.{◌≡◌, List, [], ◌∷◌, Option, Some, None, Result, Ok, Err, IfSome, string_bytes}
+use Rattle.std.specs.Prelude.{◌≡◌, List, [], ◌∷◌, Option, Some, None, Result, Ok, Err, string_bytes}
 use Rattle.csdl_declarations.specs.declared.schema_fault.SchemaFault.{SchemaFault}
 use Rattle.csdl_declarations.specs.declared.schema_fault.SchemaFault.TheVariants as code
 use Rattle.csdl_declarations.specs.Fault.{Fault, not_json, not_object, version, bad_type, bad_property, unknown_base, base_cycle, property_twice, bad_enum_member, too_large}
@@ -17,10 +17,6 @@ fault_of (code.PropertyTwice owner name) = Some (property_twice (string_bytes ow
 fault_of (code.BadEnumMember owner name) = Some (bad_enum_member (string_bytes owner) (string_bytes name))
 fault_of code.TooLarge = Some too_large
 fault_of code.Memory = None
-
--- the refusal reports this fault, or running out of memory
-abbrev pub ReportsFault : SchemaFault → Fault → Type 0
-ReportsFault e fault = IfSome (fault_of e) (λ reported. reported ≡ fault)
 
 -- the refusal is the first of the faults
 abbrev pub IsFirstOf : List Fault → Option Fault → Type 0

@@ -1,2 +1,3 @@
 -- Definitions that private clauses alone cite.
 pub mod DocumentView
+pub mod FaultView

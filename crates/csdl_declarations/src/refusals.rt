@@ -1,6 +1,6 @@
 //! Refusals with the names that they report, or `Memory` where these cannot be kept.
 ghost use Rattle.csdl_declarations.specs.Fault as fault;
-ghost use Rattle.csdl_declarations.specs.FaultView.{ReportsFault};
+ghost use Rattle.csdl_declarations.specs.private.FaultView.{ReportsFault};
 
 use super::schema_fault::SchemaFault;
 use std::alloc::Global;

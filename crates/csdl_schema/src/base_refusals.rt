@@ -1,6 +1,6 @@
 //! Refusals with the names that they report, or `Memory` where these cannot be stored.
 ghost use Rattle.csdl_declarations.specs.Fault as fault;
-ghost use Rattle.csdl_declarations.specs.FaultView.{ReportsFault};
+ghost use Rattle.csdl_declarations.specs.private.FaultView.{ReportsFault};
 
 use csdl_declarations::SchemaFault;
 use std::alloc::Global;

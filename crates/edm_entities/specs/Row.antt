@@ -83,11 +83,6 @@ pub record Row : Type 0 where
 abbrev pub row_with : SchemaModel → ℕ → List StepModel → Value → Row
 row_with schema id steps value = record { schema = schema; type_id = id; expansion = steps; value = value }
 
--- the row of a type with these values by slot
-abbrev pub row_of : SchemaModel → ℕ → List StepModel → Vec Value Global → Row
-row_of schema id expansion values =
-    record { schema = schema; type_id = id; expansion = expansion; value = Record values }
-
 -- the types of a schema, where this is expanded
 abbrev pub expanded_by : SchemaModel → List StepModel → Slots
 expanded_by schema expansion = expanded (slots_of schema) (paths_in expansion)

@@ -95,12 +95,6 @@ IsValueFault slots nullable (step ∷ path) (collection type) json flaw =
     (λ found. IsValueFault slots nullable path (single type) found flaw))
 IsValueFault slots nullable (step ∷ path) type json flaw = ⊥
 
--- the first fault in what an object has under a property's name
-abbrev pub IsPropertyFault : Slots → Bool → PropertyType → Option Data → Path → Flaw → Type 0
-IsPropertyFault slots nullable type found path flaw =
-    IsFaultUnder slots nullable type found path flaw
-    (λ nullable type json. IsValueFault slots nullable path type json flaw)
-
 -- the first fault within a row of the type of that name; the row itself is an object
 abbrev pub IsFirstFault : Slots → List ℕ → Data → Path → Flaw → Type 0
 IsFirstFault slots type_name json [] flaw = ⊥

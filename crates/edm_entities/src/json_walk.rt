@@ -9,9 +9,11 @@ ghost use Rattle.csdl_schema.specs.SchemaModel.{HasDistinctNames, properties_at,
 ghost use Rattle.edm_entities.specs.Fits.{FitsFound, FitsProperty, FitsType};
 ghost use Rattle.edm_entities.specs.HoldsEachSlot.{HoldsEachSlot};
 ghost use Rattle.edm_entities.specs.Row.{field_of, val_of};
-ghost use Rattle.edm_entities.specs.RowFaults.{IsFoundFault, IsPropertyFault, IsValueFault};
+ghost use Rattle.edm_entities.specs.RowFaults.{IsFoundFault, IsValueFault};
+ghost use Rattle.edm_entities.specs.private.Walk.{IsPropertyFault};
 ghost use Rattle.edm_entities.specs.private.Faults.{IsFaultOf};
-ghost use Rattle.edm_row_plans.specs.Expanded.{node_behind, slots_in, target_if};
+ghost use Rattle.edm_row_plans.specs.Expanded.{node_behind, target_if};
+ghost use Rattle.edm_entities.specs.private.Walk.{slots_in};
 ghost use Rattle.edm_entities.specs.private.Walk.{FitSlots, FitList, HoldsInSlot, HoldInItems, wanted_single};
 
 use super::flaw::{ReadFault, ReadFlaw, fault_below, fault_here, fault_in_item};

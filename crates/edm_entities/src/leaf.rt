@@ -1,7 +1,7 @@
 //! Values of the types without parts, from JSON values without parts; of null and of nothing.
 ghost use Rattle.std.specs.Prelude.{◌≡◌, ◌≢◌, ◌⊎◌, true, false, None, Ok, Err, IfOk, IfErr};
 ghost use Rattle.serde_json.specs.Data.{Data, boolean, string};
-ghost use Rattle.edm_values.specs.Sparse.{IsRecordOf};
+ghost use Rattle.edm_entities.specs.private.Walk.{IsRecordOf};
 ghost use Rattle.csdl_schema.specs.ExprType.{ExprType};
 ghost use Rattle.csdl_schema.specs.SchemaModel.{Slots, slots_of, type_name_at};
 ghost use Rattle.edm_entities.specs.FitsPrimitive.{FitsNumber, FitsPrimitive, FitsText, IsMemberText, IsNumberFlaw, IsPrimitiveFlaw, IsTextFlaw};

@@ -6,16 +6,12 @@ use Rattle.csdl_schema.specs.SchemaModel.{SchemaModel, Slots, expanded, slots_of
 use Rattle.csdl_schema.specs.declared.property.PropertyKind.{PropertyKind}
 use Rattle.csdl_schema.specs.declared.property.PropertyKind.TheVariants as kind
 pub use Rattle.edm_row_plans.specs.ExpandedNodes.{node_behind, target_if}
-use Rattle.edm_row_plans.specs.declared.expansion_node.WalkContext.{WalkContext}
 use Rattle.edm_row_plans.specs.declared.wanted.Wanted.{Wanted}
 use Rattle.edm_row_plans.specs.declared.wanted.Wanted.TheVariants.{Prim, Enum, Complex}
 
 -- the types of a schema, where what stands after a node of an expansion is expanded
 abbrev pub slots_at : SchemaModel → List StepModel → Option ℕ → Slots
 slots_at schema steps node = expanded (slots_of schema) (paths_at steps node)
-
-abbrev pub slots_in : WalkContext → Option ℕ → Slots
-slots_in context node = slots_at context.schema.now context.expansion.now node
 
 abbrev pub wanted_target : Option ℕ → Option Wanted
 wanted_target None = None
@@ -28,10 +24,6 @@ wanted_with (kind.Enum e) target = Some (Enum e)
 wanted_with (kind.Complex t) target = Some (Complex t)
 wanted_with kind.Opaque target = None
 wanted_with kind.Navigation target = wanted_target target
-
--- the same, if a navigation property is looked at only where it is expanded
-abbrev pub wanted_of : PropertyKind → Bool → Option ℕ → Option Wanted
-wanted_of of needed target = wanted_with of (target_if needed target)
 
 -- the property is a navigation property
 abbrev pub navigates : PropertyKind → Bool

@@ -10,7 +10,7 @@ use Rattle.csdl_schema.specs.SchemaModel.{HasDistinctNames, Slots, properties_at
 use Rattle.edm_values.specs.declared.primitive.PrimitiveType.{PrimitiveType}
 use Rattle.edm_values.specs.declared.primitive.PrimitiveType.TheVariants as prim
 use Rattle.edm_values.specs.declared.sieve.Sieve.{Sieve}
-use Rattle.edm_values.specs.Sparse.{IsRecordOf}
+use Rattle.edm_entities.specs.private.Walk.{IsRecordOf}
 use Rattle.edm_values.specs.Val.{Val}
 use Rattle.edm_values.specs.declared.value.Value.{Value, Null, List as ListOf}
 use Rattle.edm_entities.specs.Fits.{FitsFound, FitsType}

@@ -1,7 +1,6 @@
 -- What a record of few values holds by slot: each value stands beside its slot, and null is in every other.
-use Rattle.std.specs.Prelude.{◌≡◌, ◌⊎◌, ◌==◌, ℕ, zero, suc, List, [], ◌∷◌, length, Vec, if◌then◌else◌}
-use Rattle.std.specs.declared.alloc.Global.{Global}
-use Rattle.edm_values.specs.declared.value.Value.{Value, Null, Record, Sparse}
+use Rattle.std.specs.Prelude.{◌≡◌, ◌==◌, ℕ, zero, suc, List, [], ◌∷◌, length, if◌then◌else◌}
+use Rattle.edm_values.specs.declared.value.Value.{Value, Null}
 
 -- what stands beside a slot first; that where nothing does
 abbrev pub beside : {X : Type 0} → X → List (ℕ × X) → ℕ → X
@@ -16,9 +15,3 @@ by_slot none held from (suc count) = beside none held from ∷ by_slot none held
 -- the values of all slots, of which these stand beside theirs
 abbrev pub AreBeside : List (ℕ × Value) → List Value → Type 0
 AreBeside held values = by_slot Null held 0 (length values) ≡ values
-
--- a record of these values, by slot or beside their slots
-abbrev pub IsRecordOf : Vec Value Global → Value → Type 0
-IsRecordOf values value =
-    (value ≡ Record values)
-    ⊎ ((held : Vec (ℕ × Value) Global) × (value ≡ Sparse held) × AreBeside held.items values.items)

@@ -28,7 +28,6 @@ pub mod Answers
 pub mod Block
 pub mod Costs
 pub mod FilterCalls
-pub mod Handle
 pub mod HeldType
 pub mod Kinds
 pub mod Names

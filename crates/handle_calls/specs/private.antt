@@ -1,2 +1,4 @@
 -- Definitions that private clauses alone cite.
+pub mod Handle
+pub mod HeldType
 pub mod JudgeCalls

@@ -41,7 +41,7 @@ impl Model for TypeHandle {
 
     ghost view = { λ held. record { schema = held.schema.value; id = held.id } };
 
-    ghost use Rattle.handle_calls.specs.HeldType.{IsHeldType};
+    ghost use Rattle.handle_calls.specs.private.HeldType.{IsHeldType};
 
     ghost invariant = { λ held. IsHeldType (record { schema = held.schema.value; id = held.id }) held.layout.value };
 }
@@ -69,7 +69,7 @@ impl Model for FilterHandle {
 
     ghost view = { λ held. filter_in held.schema.value held.filter.value };
 
-    ghost use Rattle.handle_calls.specs.Handle.{IsHeldFilter};
+    ghost use Rattle.handle_calls.specs.private.Handle.{IsHeldFilter};
 
     ghost invariant = { λ held. IsHeldFilter (filter_in held.schema.value held.filter.value) held.layout.value };
 }

@@ -1,7 +1,5 @@
 -- What a key stands for: a name, which is written as it is (RFC 8259, section 7).
-use Rattle.std.specs.Prelude.{◌≡◌, ℕ, List, [], ◌∷◌, ◌++◌, length, string_bytes}
-use Rattle.json.specs.Written.{PlainBetween}
-use Rattle.json_room.specs.declared.key.Key.TheInside.{Inside}
+use Rattle.std.specs.Prelude.{ℕ, List, [], ◌∷◌, ◌++◌}
 
 -- a name in its quotes
 abbrev pub quoted_name : List ℕ → List ℕ
@@ -10,9 +8,3 @@ quoted_name name = 34 ∷ (name ++ 34 ∷ [])
 -- a name in its quotes, and the colon after it
 abbrev pub name_with_colon : List ℕ → List ℕ
 name_with_colon name = quoted_name name ++ 58 ∷ []
-
--- a key has a name without quotes, backslashes and control characters, and keeps what stands for it in a text
-pub record IsKey (key : Inside) : Type 0 where
-  pub plain : PlainBetween (string_bytes key.name) 0 (length (string_bytes key.name))
-  pub quoted : string_bytes key.quoted ≡ quoted_name (string_bytes key.name)
-  pub with_colon : string_bytes key.with_colon ≡ name_with_colon (string_bytes key.name)

@@ -19,7 +19,7 @@ pub(crate) struct Key {
 impl Model for Key {
     ghost use Rattle.std.specs.Prelude.{ℕ, List, string_bytes};
     ghost use Rattle.std.specs.Coded.{coded_list, coded_ℕ};
-    ghost use Rattle.json_room.specs.Keys.{IsKey};
+    ghost use Rattle.json_room.specs.private.Keys.{IsKey};
 
     ghost Value = { List ℕ };
 

@@ -202,11 +202,3 @@ abbrev mutual
 -- the nodes from the i-th up to the j-th stand for the children of the shape, one after another
 abbrev pub ChildrenStand : SchemaModel → ℕ → Scope → FlatTree → ℕ → ℕ → Shape → Type 0
 ChildrenStand schema n scope list i j shape = InLine (child_parts schema n scope list shape) i j
-
--- likewise for trees
-abbrev pub AllStand : SchemaModel → ℕ → Scope → FlatTree → ℕ → ℕ → Trees → Type 0
-AllStand schema n scope list i j trees = InLine (tree_parts schema n scope list trees) i j
-
--- likewise for items
-abbrev pub ItemsStand : SchemaModel → ℕ → Scope → FlatTree → (ExprType → Type 0) → ℕ → ℕ → Trees → Type 0
-ItemsStand schema n scope list OtherSide i j items = InLine (item_parts schema n scope list OtherSide items) i j

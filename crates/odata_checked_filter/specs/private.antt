@@ -10,3 +10,4 @@ pub mod NodeList
 pub mod PathSteps
 pub mod PrintedList
 pub mod PropertyPaths
+pub mod Stands

@@ -1,5 +1,5 @@
 -- Property paths and sets of them (OData URL Conventions 4.01, sections 5.1.1.15 and 5.1.3).
-use Rattle.std.specs.Prelude.{◌≡◌, ◌∷◌, ◌++◌, ◌||◌, [], ℕ, List, Bool, true, false, nat_eq}
+use Rattle.std.specs.Prelude.{◌≡◌, ◌∷◌, ◌||◌, [], ℕ, List, Bool, true, false, nat_eq}
 use Rattle.std.specs.Cmp.Lexicographic.{pointwise}
 
 -- the names of properties, each of the value to which those before it lead
@@ -16,10 +16,6 @@ no_paths path = false
 -- the paths of a set that begin with a step, without it
 abbrev pub below : PathSet → List ℕ → PathSet
 below paths step = λ path. paths (step ∷ path)
-
--- the paths of a set that begin with a path, without it
-abbrev pub behind : PathSet → PropertyPath → PathSet
-behind paths start = λ path. paths (start ++ path)
 
 abbrev pub is_path : PropertyPath → PropertyPath → Bool
 is_path = pointwise (pointwise nat_eq)

@@ -16,7 +16,8 @@ pub use Rattle.odata_checked_filter.proofs.flat.Places.{found_before, same_found
 pub use Rattle.odata_checked_filter.proofs.flat.Standing.{lie_onward, lies_nonempty}
 pub use Rattle.odata_checked_filter.specs.Filter.{Filter, IsFilter, tree_of_filter}
 pub use Rattle.odata_checked_filter.specs.FlatTree.{FlatTree}
-pub use Rattle.odata_checked_filter.specs.Stands.{AllStand, ChildrenStand, HasOwnValue, HasValue, InBody, InLine, IsCallNode, IsKindOf, IsLiteralNode, IsMemberNode, IsNameNode, IsValueOf, ItemsStand, NumberStands, ResolvedStands, SideBySide, Stands, variable_names}
+pub use Rattle.odata_checked_filter.specs.Stands.{ChildrenStand, HasOwnValue, HasValue, InBody, InLine, IsCallNode, IsKindOf, IsLiteralNode, IsMemberNode, IsNameNode, IsValueOf, NumberStands, ResolvedStands, SideBySide, Stands, variable_names}
+pub use Rattle.odata_checked_filter.specs.private.Stands.{AllStand, ItemsStand}
 pub use Rattle.odata_checked_filter.specs.declared.checked_node.CheckedNode.{CheckedNode}
 pub use Rattle.odata_checked_filter.specs.declared.checked_node.NodeKind.{NodeKind}
 pub use Rattle.odata_checked_filter.specs.private.Layout.{AllLie, ChildrenLie, Lies}
@@ -45,13 +46,15 @@ pub use Rattle.odata_meaning.specs.Means.{ArgumentsMean, ItemMeans, Means}
 pub use Rattle.odata_meaning.specs.NameGives.{FieldGives, FoundGives, NameGives, StepGives}
 pub use Rattle.odata_meaning.specs.OperatorGives.{InType, OperatorGives, SidesGive}
 pub use Rattle.odata_meaning.specs.ReadGives.{GivesMember}
-pub use Rattle.odata_ranges.specs.FunctionRanges.{AreWithin, CalledWithin, IsSpellable}
+pub use Rattle.odata_ranges.specs.private.FunctionRanges.{AreWithin, CalledWithin, IsSpellable}
 pub use Rattle.odata_ranges.specs.Faults.{AreQuiet, AreQuietThere, AreReportedFrom, IsQuietKind, IsQuietType, MakesNone, ReportsFaults}
 pub use Rattle.odata_ranges.specs.Kept.{AreKept, AreKeptVariables, IsKept, IsKeptProperty, IsNullOnlyIf, property_takes_null}
 pub use Rattle.odata_ranges.specs.Owners.{BelongsTo, IsOwnerAt, NamesSlotOf}
 pub use Rattle.odata_ranges.specs.Ranges.{AreRangesFrom, CheckContext, HoldsRange, IsContextOf, IsRangeAt, MeansIn}
-pub use Rattle.odata_ranges.specs.Reach.{HoldsNumber, IsBounded, IsSmall, LiesBetween, Reaches}
-pub use Rattle.odata_ranges.specs.Within.{CalculatesWithin, HoldsCount, IsUpTo, IsValueWithin, IsWithin, unbounded}
+pub use Rattle.odata_ranges.specs.Reach.{HoldsNumber, IsBounded, IsSmall, LiesBetween}
+pub use Rattle.odata_ranges.specs.private.Reach.{Reaches}
+pub use Rattle.odata_ranges.specs.Within.{HoldsCount, IsUpTo, IsValueWithin, IsWithin, unbounded}
+pub use Rattle.odata_ranges.specs.private.Reach.{CalculatesWithin}
 pub use Rattle.odata_ranges.specs.declared.node_form.NodeForm.{NodeForm}
 pub use Rattle.odata_ranges.specs.declared.range.Range.{Range}
 pub use Rattle.odata_ranges.specs.private.Called.{IsCalledRange}

@@ -1,5 +1,4 @@
 pub mod Faults
-pub mod FunctionRanges
 pub mod Kept
 pub mod Owners
 pub mod Ranges

@@ -1,7 +1,5 @@
 -- The whole numbers that arithmetic makes of numbers within ranges (OData URL Conventions 4.01, section 5.1.1.2).
 use Rattle.std.specs.Prelude.{ℤ, pos, neg_ℤ, ◌≤ℤ◌}
-use Rattle.odata_functions.specs.Arithmetic.{MakesNumber}
-use Rattle.odata_syntax.specs.declared.binary_operator.ArithmeticOperator.{ArithmeticOperator}
 use Rattle.odata_ranges.specs.declared.range.Range.{Range}
 
 -- the number lies between two others
@@ -21,8 +19,3 @@ pub record IsBounded (range : Range) : Type 0 where
   pub ordered : range.low ≤ℤ range.high
   pub low : IsSmall range.low
   pub high : IsSmall range.high
-
--- what the operator makes of numbers of these ranges lies between the two
-abbrev pub Reaches : ArithmeticOperator → Range → Range → ℤ × ℤ → Type 0
-Reaches operator left right span =
-    (a b n : ℤ) → HoldsNumber left a → HoldsNumber right b → MakesNumber operator a b n → LiesBetween span.0 span.1 n

@@ -40,10 +40,6 @@ CalculationHas operator type left right Holds =
     (v w : Val) (o : Outcome) → IsValueWithin left v → IsValueWithin right w
     → CalculationGives operator (single (primitive type)) v w o → Holds o
 
--- lies within a third
-abbrev pub CalculatesWithin : ArithmeticOperator → PrimitiveType → Range → Range → Range → Type 0
-CalculatesWithin operator type left right result = CalculationHas operator type left right (IsWithin result)
-
 -- is a value
 abbrev pub NeverFaults : ArithmeticOperator → PrimitiveType → Range → Range → Type 0
 NeverFaults operator type left right = CalculationHas operator type left right (GivesSome (λ v. Unit {0}))

@@ -2,9 +2,11 @@ ghost use Rattle.std.specs.Prelude.{◌≡◌, ◌≢◌, ◌⊎◌, ◌≤ℤ�
 ghost use Rattle.edm_values.specs.NumberTypes.{IsNumberType};
 ghost use Rattle.odata_functions.specs.Arithmetic.{IsDividing};
 ghost use Rattle.odata_syntax.specs.declared.binary_operator.ArithmeticOperator.TheVariants.{Add, Sub, Mul, Div, Mod};
-ghost use Rattle.odata_ranges.specs.Reach.{HoldsNumber, IsBounded, IsSmall, LiesBetween, Reaches};
+ghost use Rattle.odata_ranges.specs.Reach.{HoldsNumber, IsBounded, IsSmall, LiesBetween};
+ghost use Rattle.odata_ranges.specs.private.Reach.{Reaches};
 ghost use Rattle.odata_ranges.specs.private.ArithmeticRanges.{IsNear};
-ghost use Rattle.odata_ranges.specs.Within.{CalculatesWithin, NeverFaults};
+ghost use Rattle.odata_ranges.specs.Within.{NeverFaults};
+ghost use Rattle.odata_ranges.specs.private.Reach.{CalculatesWithin};
 
 use super::bounds::range_of_type;
 use super::range::Range;

@@ -4,7 +4,7 @@ use Rattle.std.specs.Prelude.{◌≤◌, ℕ, List}
 use Rattle.odata_syntax.specs.Tree.{Tree, shape_of, start_of}
 use Rattle.csdl_schema.specs.SchemaModel.{Slots}
 use Rattle.odata_signatures.specs.declared.refusal.TypeFault.{TypeFault}
-use Rattle.odata_signatures.specs.Considered.{IsAmong, IsConsideredChild}
+use Rattle.odata_signatures.specs.Considered.{IsConsideredChild}
 use Rattle.odata_signatures.specs.FirstUntypable.{IsFirstUntypable, IsUntypable}
 use Rattle.odata_signatures.specs.Typed.{Scope}
 
@@ -12,15 +12,6 @@ use Rattle.odata_signatures.specs.Typed.{Scope}
 abbrev pub StartFrom : Slots → List ℕ → Scope → Tree → ℕ → Type 0
 StartFrom slots root scope tree k =
     (at : Scope) (other : Tree) → IsUntypable slots root scope tree at other → k ≤ start_of other
-
--- of the untypable nodes of trees in one scope the one that starts first
-pub record IsFirstAmong
-    (slots : Slots) (root : List ℕ) (scope : Scope) (trees : List Tree) (fault : TypeFault) : Type 0 where
-  pub tree : Tree
-  pub among : IsAmong scope trees scope tree
-  pub found : IsFirstUntypable slots root scope tree fault
-  pub others :
-      (at : Scope) (other : Tree) → IsAmong scope trees at other → StartFrom slots root at other fault.span.start
 
 -- of the untypable nodes below a node, each in the scope that it is judged in, the one that starts first
 pub record IsFirstBelow

@@ -20,11 +20,6 @@ pub record ReadsNumber
 abbrev pub ReadsNone : Slots → (ExprType → Type 0) → Tree → Type 0
 ReadsNone slots OtherSide tree = (n : ℤ) → ¬ ReadsNumber slots OtherSide tree n
 
--- likewise each of trees one after another
-abbrev pub ReadNone : Slots → (ExprType → Type 0) → Trees → Type 0
-ReadNone slots OtherSide no_trees = Unit {0}
-ReadNone slots OtherSide (more_trees tree trees) = ReadsNone slots OtherSide tree × ReadNone slots OtherSide trees
-
 -- an operand of `eq` or `ne`, of a type; no other operator has its literals read
 abbrev pub OfEquality : BinaryOperator → (ExprType → Type 0) → ExprType → Type 0
 OfEquality operator Operand type = IsEquality operator × Operand type

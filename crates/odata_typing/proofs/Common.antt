@@ -3,7 +3,8 @@ pub use Rattle.csdl_schema.specs.ExprType.{ExprType, SingleType, collection, enu
 pub use Rattle.csdl_schema.specs.SchemaModel.{HoldsEnumeration, HoldsType, IsEnumerationByName, PropertyModel, PropertyType, SchemaModel, Slots, declared, enumeration_at, enumeration_named, is_enumeration, is_kind_at, navigation, opaque, place_if, properties_at, slot_named, slots_of, type_name_at}
 pub use Rattle.odata_checked_filter.specs.FlatTree.{FlatTree, tree_of_nodes}
 pub use Rattle.odata_checked_filter.specs.ListChanges.{IsKeptOutside, node_put, nothing_yet, number_put, with_room, with_value}
-pub use Rattle.odata_checked_filter.specs.Stands.{AllStand, ChildrenStand, HasOwnValue, HasValue, IsCallNode, IsKindOf, IsLiteralNode, IsNameNode, ItemsStand, NumberStands, ResolvedStands, Stands, text_of_shape, variable_names}
+pub use Rattle.odata_checked_filter.specs.Stands.{ChildrenStand, HasOwnValue, HasValue, IsCallNode, IsKindOf, IsLiteralNode, IsNameNode, NumberStands, ResolvedStands, Stands, text_of_shape, variable_names}
+pub use Rattle.odata_checked_filter.specs.private.Stands.{AllStand, ItemsStand}
 pub use Rattle.odata_checked_filter.specs.declared.checked_node.CheckedNode.{CheckedNode}
 pub use Rattle.odata_signatures.specs.Considered.{ChildrenTyped, IsAmong, IsBodyInScope, IsConsidered, IsConsideredBody, IsConsideredChild, children_in_scope, considers_below, considers_itself}
 pub use Rattle.odata_signatures.specs.ExprTypes.{IsBooleanOrNull, boolean_type, string_type}

@@ -2,6 +2,7 @@
 pub mod Answer
 pub mod CheckContexts
 pub mod Checker
+pub mod FirstAmong
 pub mod Forms
 pub mod Items
 pub mod Judging

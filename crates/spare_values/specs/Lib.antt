@@ -1,2 +1,2 @@
 pub mod StoredTexts
-pub mod private
+pub mod Written

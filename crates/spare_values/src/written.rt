@@ -3,7 +3,7 @@ ghost use Rattle.std.specs.Borrow.{LendsIf, sem};
 ghost use Rattle.std.specs.Prelude.{◌≡◌, length, IsTrue};
 ghost use Rattle.edm_values.specs.contracts.value.Value.{the_row};
 ghost use Rattle.edm_values.specs.declared.value.Value.{List as ListOf, Record as RecordOf};
-ghost use Rattle.spare_values.specs.private.Written.{list_row};
+ghost use Rattle.spare_values.specs.Written.{list_row};
 
 use edm_values::Value;
 

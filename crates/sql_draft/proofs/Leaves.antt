@@ -37,8 +37,7 @@ use Rattle.odata_syntax.specs.declared.node.LiteralKind.{LiteralKind}
 use Rattle.odata_ranges.proofs.Inside.{literal_inside, same_value}
 use Rattle.odata_ranges.proofs.TreesAt.{number_there, something_there}
 use Rattle.sql_draft.specs.Rows.{IsRowOf}
-use Rattle.sql_draft.specs.OperandHas.{IsLiteralAt}
-use Rattle.sql_draft.specs.Translated.{IsGuid, IsSpelled}
+use Rattle.sql_draft.specs.private.Spelled.{IsGuid, IsLiteralAt, IsSpelled}
 use Rattle.sql_draft.specs.World.{OfPlace, World}
 use Rattle.sql_draft.proofs.Places.{by_kind, valued_there}
 

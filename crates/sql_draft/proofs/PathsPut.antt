@@ -19,7 +19,8 @@ use Rattle.sql_tree.specs.declared.json_path.Step.{Step}
 use Rattle.sql_draft.specs.declared.draft.Draft.{Draft}
 use Rattle.std.specs.declared.alloc.AllocError.{AllocError}
 use Rattle.sql_draft.specs.Growth.{GrowsBy, IsFront}
-use Rattle.sql_draft.specs.Paths.{BelowHas, IsBottom, IsBottomOf, PutsMemberPath, PutsPath, StepsLead}
+use Rattle.sql_draft.specs.Paths.{PutsMemberPath, PutsPath}
+use Rattle.sql_draft.specs.private.Paths.{BelowHas, IsBottom, IsBottomOf, StepsLead}
 use Rattle.sql_draft.specs.World.{IsWorldOf, OfPlace, Question, World}
 use Rattle.sql_draft.proofs.Composing.{front_of_front, grown, no_more}
 use Rattle.sql_draft.proofs.PathNodes.{it_there, member_step, property_step, variable_there_is, variable_within}

@@ -20,7 +20,7 @@ use Rattle.odata_eval.proofs.walking.Parts.{found_there, some_there}
 use Rattle.odata_ranges.specs.Owners.{BelongsTo, IsOwnerAt, NamesProperty, NamesSlotOf}
 use Rattle.odata_ranges.proofs.PropertyOwners.{property_owned}
 use Rattle.sql_tree.specs.declared.json_path.Base.{Base}
-use Rattle.sql_draft.specs.Paths.{IsBottomOf, IsFirstStep, IsMemberAt, StepsLead}
+use Rattle.sql_draft.specs.private.Paths.{IsBottomOf, IsFirstStep, IsMemberAt, StepsLead}
 use Rattle.sql_draft.specs.World.{Question}
 use Rattle.odata_ranges.proofs.Holding.{same_owner}
 use Rattle.sql_draft.proofs.PathsPut.{document_leads, it_leads, of_it_leads, property_leads}

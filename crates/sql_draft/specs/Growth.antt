@@ -1,9 +1,7 @@
 -- What is added to a draft.
-use Rattle.std.specs.Prelude.{◌≡◌, ◌<◌, ◌++◌, ◌∷◌, [], ℕ, ◌+◌, List, String, length}
-use Rattle.std.specs.declared.alloc.Global.{Global}
+use Rattle.std.specs.Prelude.{◌≡◌, ◌<◌, ◌++◌, ℕ, ◌+◌, List, length}
 use Rattle.sql_draft.specs.declared.draft.Draft.{Draft}
 use Rattle.sql_tree.specs.declared.sql_node.SqlNode.{SqlNode}
-use Rattle.sql_tree.specs.declared.sql_node.SqlType.{SqlType}
 use Rattle.sql_tree.specs.declared.parameter.Parameter.{Parameter}
 use Rattle.sql_tree.specs.Numbered.{AreNumbered, parameters_of}
 use Rattle.sql_tree.specs.declared.json_path.Path.{Path}
@@ -28,13 +26,6 @@ pub record IsDeeper (old new : Draft) (count : ℕ) : Type 0 where
   pub depth : new.depth ≡ old.depth + count
   pub few : old.depth < 1_000_000_000_000
   pub counted : count < 1_000_000_000_000
-
--- a parameter of that type, the text of which meets this, and its node
-pub record GrowsByText (old new : Draft) (type : SqlType) (Meets : String Global → Type 0) : Type 0 where
-  pub written : String Global
-  pub meets : Meets written
-  pub by :
-      GrowsBy old new (SqlNode.Parameter (length old.tree.parameters.items) type ∷ []) [] (Parameter.Text written ∷ [])
 
 -- these nodes stand after those of the draft, and name the parameters that were added, one after another and each once;
 -- there may be further paths, and what the next node may name is as before

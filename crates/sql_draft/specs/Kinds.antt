@@ -41,9 +41,3 @@ AreCompared Kind.Null right = Unit {0}
 AreCompared left Kind.Null = Unit {0}
 AreCompared (Kind.Value s) (Kind.Value t) = s ≡ t
 AreCompared left right = ⊥
-
--- two values of one type
-pub record AreAlike (left right : Kind) : Type 0 where
-  pub type_of : SqlType
-  pub left_is : left ≡ Kind.Value type_of
-  pub right_is : right ≡ Kind.Value type_of

@@ -5,3 +5,4 @@ pub mod Paths
 pub mod Rows
 pub mod Translated
 pub mod World
+pub mod private

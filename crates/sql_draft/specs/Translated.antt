@@ -1,8 +1,7 @@
 -- What a translation goes by.
-use Rattle.std.specs.Prelude.{◌≡◌, ◌≢◌, ◌<◌, ℕ, All, List, Some, String, IsSomeAnd, true, false, length, slice_get, string_bytes}
+use Rattle.std.specs.Prelude.{◌≡◌, ◌<◌, ℕ, List, Some, String, IsSomeAnd, true, false, length, slice_get, string_bytes}
 use Rattle.std.specs.declared.alloc.Global.{Global}
-use Rattle.edm_values.specs.Civil.{Date}
-use Rattle.edm_values.specs.MomentParts.{IsFourDigitYear, IsMoment}
+use Rattle.edm_values.specs.MomentParts.{IsMoment}
 use Rattle.edm_values.specs.declared.value.Value.{Value}
 use Rattle.odata_checked_filter.specs.Filter.{Filter, IsFilter}
 use Rattle.odata_checked_filter.specs.declared.checked_node.CheckedNode.{CheckedNode}
@@ -14,8 +13,6 @@ use Rattle.odata_signatures.specs.declared.edm_type.EdmType.{EdmType}
 use Rattle.odata_ranges.specs.Within.{IsWithin}
 use Rattle.odata_ranges.specs.declared.range.Range.{Range}
 use Rattle.sql_meaning.specs.ParameterGives.{HoldsNul}
-use Rattle.sql_meaning.specs.SqlTypeHolds.{type_of_field}
-use Rattle.sql_tree.specs.declared.sql_node.FieldType.{FieldType}
 use Rattle.sql_tree.specs.declared.sql_node.SqlType.{SqlType}
 use Rattle.sql_draft.specs.declared.sql_context.Kind.{Kind}
 use Rattle.sql_draft.specs.declared.sql_context.SqlContext.{SqlContext}
@@ -66,23 +63,6 @@ pub record IsTranslated (context : SqlContext) : Type 0 where
   pub ranges : AreRanges (question_of context) context.ranges.now
   pub nul_free : (place : ℕ) → IsNulFreeAt context.checked.now place
 
--- a truth value there evaluates to no fault
-abbrev pub IsPlainAt : Filter → List Range → ℕ → Type 0
-IsPlainAt filter ranges place =
-    (node : CheckedNode) (range : Range) → slice_get filter.list.nodes place ≡ Some node
-    → slice_get ranges place ≡ Some range → kind_of_type node.edm_type ≡ Kind.Value SqlType.Truth
-    → range.may_fault ≡ false
-
--- a Guid: sixteen bytes
-abbrev pub IsGuid : List ℕ → Type 0
-IsGuid bytes = (length bytes ≡ 16) × All (λ b. b < 256) bytes
-
--- a literal that is a date or a Guid has a spelling
-abbrev pub IsSpelled : Filter → ℕ → Type 0
-IsSpelled filter place =
-    ((date : Date) → slice_get filter.list.values place ≡ Some (Value.Date date) → IsFourDigitYear date.year)
-    × ((bytes : List ℕ) → slice_get filter.list.values place ≡ Some (Value.Guid bytes) → IsGuid bytes)
-
 -- the node there is of that kind
 abbrev pub IsKindAt : Filter → ℕ → NodeKind → Type 0
 IsKindAt filter place kind = IsSomeAnd (slice_get filter.list.nodes place) (λ node. node.kind ≡ kind)
@@ -110,34 +90,3 @@ IsTruthKind kind = ⊥
 abbrev pub IsTruthAt : Filter → ℕ → Type 0
 IsTruthAt filter place = IsSomeAnd (slice_get filter.list.nodes place)
     (λ node. IsTruthKind (kind_of_type node.edm_type))
-
--- a node of type Boolean
-abbrev pub IsBooleanAt : Filter → ℕ → Type 0
-IsBooleanAt filter place =
-    IsSomeAnd (slice_get filter.list.nodes place) (λ node. kind_of_type node.edm_type ≡ Kind.Value SqlType.Truth)
-
--- what asks a collection, flags or a list, and a path
-abbrev pub IsOtherKind : NodeKind → Type 0
-IsOtherKind NodeKind.AnyItem = Unit {0}
-IsOtherKind NodeKind.Has = Unit {0}
-IsOtherKind NodeKind.InList = Unit {0}
-IsOtherKind NodeKind.InPath = Unit {0}
-IsOtherKind (NodeKind.Lambda quantifier) = Unit {0}
-IsOtherKind (NodeKind.Property slot) = Unit {0}
-IsOtherKind (NodeKind.Variable level) = Unit {0}
-IsOtherKind (NodeKind.Member slot) = Unit {0}
-IsOtherKind kind = ⊥
-
-abbrev pub IsFaultless : List Range → ℕ → Type 0
-IsFaultless ranges place = IsSomeAnd (slice_get ranges place) (λ range. range.may_fault ≡ false)
-
--- a node that is no entity and no complex value
-abbrev pub IsValuedAt : Filter → ℕ → Type 0
-IsValuedAt filter place =
-    IsSomeAnd (slice_get filter.list.nodes place) (λ node. kind_of_type node.edm_type ≢ Kind.Structured)
-
--- a node of the kind of values that have that type in JSON
-abbrev pub HasFieldType : Filter → ℕ → FieldType → Type 0
-HasFieldType filter place type =
-    IsSomeAnd (slice_get filter.list.nodes place)
-    (λ node. kind_of_type node.edm_type ≡ Kind.Value (type_of_field type))

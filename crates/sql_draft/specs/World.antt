@@ -1,5 +1,5 @@
 -- A row that is asked, with what is around an expression of the filter and of SQL there.
-use Rattle.std.specs.Prelude.{◌≡◌, ◌++◌, ℕ, List, Some, IsSomeAnd, length, reverse, slice_get}
+use Rattle.std.specs.Prelude.{◌≡◌, ℕ, Some, IsSomeAnd, length, reverse, slice_get}
 use Rattle.edm_values.specs.MomentParts.{MomentParts}
 use Rattle.csdl_schema.specs.SchemaModel.{slots_of, type_name_at}
 use Rattle.edm_entities.specs.Row.{Row, value_of}
@@ -10,11 +10,10 @@ use Rattle.odata_meaning.specs.Environment.{Bound as Variable, Environment, IsFi
 use Rattle.odata_meaning.specs.Means.{Means}
 use Rattle.odata_filter_operations.specs.Outcome.{Outcome, gives}
 use Rattle.odata_ranges.specs.Kept.{AreKeptVariables}
-use Rattle.sql_meaning.specs.SqlMeans.{AllMean, SqlMeans}
-use Rattle.sql_meaning.specs.Table.{Asked, Bound, BoundValue}
-use Rattle.sql_tree.specs.Shapes.{AreShaped, IsShaped}
-use Rattle.sql_tree.specs.Term.{Term, Terms, nodes_of, nodes_of_all}
-use Rattle.sql_tree.specs.TreeText.{count_of}
+use Rattle.sql_meaning.specs.SqlMeans.{SqlMeans}
+use Rattle.sql_meaning.specs.Table.{Asked, Bound}
+use Rattle.sql_tree.specs.Shapes.{IsShaped}
+use Rattle.sql_tree.specs.Term.{Term, nodes_of}
 use Rattle.sql_draft.specs.Rows.{IsRowOf}
 use Rattle.sql_draft.specs.declared.draft.Draft.{Draft}
 use Rattle.sql_draft.specs.Growth.{Grows, IsFront}
@@ -69,21 +68,6 @@ abbrev pub Says : Question → Draft → Has → (Outcome → Outcome → Type 0
 Says question draft Outcomes Form t =
     (world : World) (o : Outcome) → IsWorldOf question draft world → Outcomes world o
     → (x : Outcome) × SqlMeans world.asked world.bound t x × Form o x
-
--- the world within, where these are bound too
-abbrev pub extended : World → List BoundValue → World
-extended world more = record world { bound = world.bound ++ more }
-
--- so many terms are added, one after another, that evaluate to what there is of them
-pub record PutsAll (question : Question) (old new : Draft) (Outcomes : World → List Outcome → Type 0) (count : ℕ) :
-    Type 0 where
-  pub terms : Terms
-  pub counted : count_of terms ≡ count
-  pub shaped : AreShaped terms
-  pub grows : Grows old new (nodes_of_all terms)
-  pub says :
-      (world : World) (os : List Outcome) → IsWorldOf question new world → Outcomes world os
-      → AllMean world.asked world.bound terms os
 
 -- a term is added that says so, each of its nodes with as many children as it takes
 pub record Puts (question : Question) (old new : Draft) (Outcomes : Has)

@@ -1,7 +1,8 @@
 //! Properties, members and range variables as columns and positions in JSON.
 ghost use Rattle.std.specs.Prelude.{◌<◌, ◌≤◌, ◌+◌, [], ℕ, List, IfNone, IfOk, IfSome};
 ghost use Rattle.odata_ranges.specs.Owners.{NamesProperty, NamesSlotOf};
-ghost use Rattle.sql_draft.specs.Paths.{IsBottomOf, IsFirstStep, PutsMemberPath, PutsPath, StepsLead};
+ghost use Rattle.sql_draft.specs.Paths.{PutsMemberPath, PutsPath};
+ghost use Rattle.sql_draft.specs.private.Paths.{IsBottomOf, IsFirstStep, StepsLead};
 ghost use Rattle.sql_draft.specs.Translated.{IsPathAt, IsTranslated, question_of};
 
 use super::draft::Draft;

@@ -63,13 +63,19 @@ pub use Rattle.sql_draft.proofs.Composing.{by_node, front_of_front, grown, grows
 pub use Rattle.sql_draft.proofs.Leaves.{literal_spelled, literal_there, literal_within, now_there}
 pub use Rattle.sql_draft.proofs.PathLeads.{path_later, path_on, path_says}
 pub use Rattle.sql_draft.proofs.Places.{by_kind}
-pub use Rattle.sql_draft.specs.Growth.{Grows, GrowsBy, GrowsByText, IsDeeper, IsFront}
-pub use Rattle.sql_draft.specs.Kinds.{AreAlike, AreCompared, IsOfKind, kind_of_single, kind_of_type, single_of}
-pub use Rattle.sql_draft.specs.OperandHas.{ComparedHas, Fits, HasLoosely, HasValue, IsInside, IsLiteralAt, IsNodeAt, IsNodeOperand, IsPut, IsReadAt, IsSideAt, IsSourceOf, IsTestable, IsTested, IsUnread, NullHas, OperandHas, SomeNull, SourceHas, as_compared, bound_source, carrier_of}
+pub use Rattle.sql_draft.specs.Growth.{Grows, GrowsBy, IsDeeper, IsFront}
+pub use Rattle.sql_outcomes.specs.private.Growth.{GrowsByText}
+pub use Rattle.sql_draft.specs.Kinds.{AreCompared, IsOfKind, kind_of_single, kind_of_type, single_of}
+pub use Rattle.sql_outcomes.specs.private.Alike.{AreAlike}
+pub use Rattle.sql_draft.specs.OperandHas.{Fits, IsInside, IsNodeAt, IsNodeOperand, IsReadAt, IsSideAt, IsUnread, OperandHas, SourceHas, bound_source, carrier_of}
+pub use Rattle.sql_outcomes.specs.private.OperandValues.{ComparedHas, HasLoosely, HasValue, IsPut, IsSourceOf, IsTestable, IsTested, NullHas, SomeNull, as_compared}
+pub use Rattle.sql_draft.specs.private.Spelled.{IsLiteralAt}
 pub use Rattle.sql_draft.specs.Paths.{IsPathTo, PutsMemberPath, PutsPath}
 pub use Rattle.sql_draft.specs.Rows.{IsFault}
-pub use Rattle.sql_draft.specs.Translated.{AreRanges, HasFieldType, IsBooleanAt, IsCarriedKind, IsFaultless, IsKindAt, IsOfTypeAt, IsOtherKind, IsPathAt, IsPlainAt, IsStep, IsTruthAt, IsTruthKind, IsValuedAt, question_of}
-pub use Rattle.sql_draft.specs.World.{Has, IsAskedOf, IsWorldOf, OfPlace, Puts, PutsAll, Question, Says, World, extended}
+pub use Rattle.sql_draft.specs.Translated.{AreRanges, IsCarriedKind, IsKindAt, IsOfTypeAt, IsPathAt, IsStep, IsTruthAt, IsTruthKind, question_of}
+pub use Rattle.sql_outcomes.specs.private.NodesThere.{HasFieldType, IsBooleanAt, IsFaultless, IsOtherKind, IsPlainAt, IsValuedAt}
+pub use Rattle.sql_draft.specs.World.{Has, IsAskedOf, IsWorldOf, OfPlace, Puts, Question, Says, World}
+pub use Rattle.sql_outcomes.specs.private.Worlds.{PutsAll, extended}
 pub use Rattle.sql_draft.specs.declared.draft.Draft.{Draft}
 pub use Rattle.sql_draft.specs.declared.sql_context.Kind.{Kind}
 pub use Rattle.sql_draft.specs.declared.sql_operand.Operand.{Operand}

@@ -10,7 +10,7 @@ ghost use Rattle.sql_outcomes.specs.Calculations.{CalculatedHas, IsComputedIn};
 ghost use Rattle.sql_forms.specs.private.Calculated.{CheckedHas, DivisorHas, WideHas, ZeroHas};
 ghost use Rattle.sql_outcomes.specs.private.ValueForms.{Itself};
 ghost use Rattle.sql_draft.specs.Growth.{Grows};
-ghost use Rattle.sql_draft.specs.OperandHas.{IsPut};
+ghost use Rattle.sql_outcomes.specs.private.OperandValues.{IsPut};
 ghost use Rattle.sql_draft.specs.Translated.{IsTranslated, question_of};
 ghost use Rattle.sql_draft.specs.World.{Puts};
 

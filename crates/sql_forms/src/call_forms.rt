@@ -16,8 +16,9 @@ ghost use Rattle.sql_outcomes.specs.private.ValueForms.{Itself};
 ghost use Rattle.sql_draft.specs.declared.sql_context.Kind.{Kind};
 ghost use Rattle.sql_draft.specs.Growth.{Grows};
 ghost use Rattle.sql_forms.specs.private.Lifts.{carried_front};
-ghost use Rattle.sql_draft.specs.OperandHas.{IsPut};
-ghost use Rattle.sql_draft.specs.Translated.{IsKindAt, IsPlainAt, IsTranslated, IsTruthAt, question_of};
+ghost use Rattle.sql_outcomes.specs.private.OperandValues.{IsPut};
+ghost use Rattle.sql_draft.specs.Translated.{IsKindAt, IsTranslated, IsTruthAt, question_of};
+ghost use Rattle.sql_outcomes.specs.private.NodesThere.{IsPlainAt};
 ghost use Rattle.sql_draft.specs.World.{OfPlace, Puts};
 
 use super::lift::{Lifted, bind_operands};

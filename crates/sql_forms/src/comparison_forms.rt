@@ -14,8 +14,9 @@ ghost use Rattle.sql_outcomes.specs.private.FaultySides.{IsGiven, compared_in};
 ghost use Rattle.sql_forms.specs.private.Compared.{StrictHas};
 ghost use Rattle.sql_forms.specs.Forms.{IsInForm};
 ghost use Rattle.sql_outcomes.specs.private.ValueForms.{Itself, OrTruth};
-ghost use Rattle.sql_draft.specs.Kinds.{AreAlike, AreCompared};
-ghost use Rattle.sql_draft.specs.OperandHas.{IsPut, IsTested};
+ghost use Rattle.sql_draft.specs.Kinds.{AreCompared};
+ghost use Rattle.sql_outcomes.specs.private.Alike.{AreAlike};
+ghost use Rattle.sql_outcomes.specs.private.OperandValues.{IsPut, IsTested};
 ghost use Rattle.sql_draft.specs.Translated.{IsTranslated, question_of};
 ghost use Rattle.sql_draft.specs.World.{Puts};
 

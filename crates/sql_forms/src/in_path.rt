@@ -15,9 +15,11 @@ ghost use Rattle.sql_forms.specs.private.Lists.{IsAtPath, IsMemberOperand};
 ghost use Rattle.sql_outcomes.specs.private.ItemValues.{IsCollectionAt};
 ghost use Rattle.sql_outcomes.specs.Members.{IsStopAt};
 ghost use Rattle.sql_draft.specs.Kinds.{kind_of_single};
-ghost use Rattle.sql_draft.specs.OperandHas.{IsInside, IsTested};
+ghost use Rattle.sql_draft.specs.OperandHas.{IsInside};
+ghost use Rattle.sql_outcomes.specs.private.OperandValues.{IsTested};
 ghost use Rattle.sql_draft.specs.Paths.{IsPathTo};
-ghost use Rattle.sql_draft.specs.Translated.{IsBooleanAt, IsFaultless, IsKindAt, IsTranslated, question_of};
+ghost use Rattle.sql_draft.specs.Translated.{IsKindAt, IsTranslated, question_of};
+ghost use Rattle.sql_outcomes.specs.private.NodesThere.{IsBooleanAt, IsFaultless};
 ghost use Rattle.sql_draft.specs.World.{OfPlace, Puts};
 
 use super::code::put_code;

@@ -10,7 +10,8 @@ ghost use Rattle.sql_forms.specs.private.Joins.{IsJoin};
 ghost use Rattle.sql_forms.specs.Forms.{IsInForm};
 ghost use Rattle.sql_forms.specs.private.AskedForms.{IsAskedCode, asked_digit};
 ghost use Rattle.sql_draft.specs.Growth.{GrowsBy};
-ghost use Rattle.sql_draft.specs.Translated.{IsFaultless, IsTranslated, IsTruthAt, question_of};
+ghost use Rattle.sql_draft.specs.Translated.{IsTranslated, IsTruthAt, question_of};
+ghost use Rattle.sql_outcomes.specs.private.NodesThere.{IsFaultless};
 ghost use Rattle.sql_draft.specs.World.{OfPlace, Puts};
 
 use super::call_forms::is_kind;

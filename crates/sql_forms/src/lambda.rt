@@ -11,7 +11,8 @@ ghost use Rattle.sql_outcomes.specs.Members.{OverHas};
 ghost use Rattle.sql_forms.specs.private.Bodies.{PutsBody, body_form, coded_undecided};
 ghost use Rattle.sql_outcomes.specs.private.ItemValues.{missing_front};
 ghost use Rattle.sql_draft.specs.Paths.{IsPathTo};
-ghost use Rattle.sql_draft.specs.Translated.{IsFaultless, IsKindAt, IsTranslated, IsTruthAt, question_of};
+ghost use Rattle.sql_draft.specs.Translated.{IsKindAt, IsTranslated, IsTruthAt, question_of};
+ghost use Rattle.sql_outcomes.specs.private.NodesThere.{IsFaultless};
 ghost use Rattle.sql_tree.specs.Digits.{number_of};
 ghost use Rattle.sql_draft.specs.World.{OfPlace, Puts};
 

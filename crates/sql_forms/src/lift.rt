@@ -6,9 +6,10 @@ ghost use Rattle.sql_draft.specs.Growth.{Grows};
 ghost use Rattle.sql_outcomes.specs.OperandFaults.{AllHave, carrier_in};
 ghost use Rattle.sql_forms.specs.private.Lifts.{IsLifted, IsOpened};
 ghost use Rattle.sql_outcomes.specs.private.BoundOperands.{fault_front, faults_front};
-ghost use Rattle.sql_draft.specs.OperandHas.{IsInside, IsPut};
+ghost use Rattle.sql_draft.specs.OperandHas.{IsInside};
+ghost use Rattle.sql_outcomes.specs.private.OperandValues.{IsPut};
 ghost use Rattle.sql_draft.specs.Translated.{IsTranslated, question_of};
-ghost use Rattle.sql_draft.specs.World.{PutsAll};
+ghost use Rattle.sql_outcomes.specs.private.Worlds.{PutsAll};
 
 use super::operand_forms::put_operand;
 use sql_draft::{Draft, Operand, SqlContext};

@@ -17,7 +17,8 @@ ghost use Rattle.sql_outcomes.specs.Items.{AreItemsOf};
 ghost use Rattle.sql_forms.specs.private.Lists.{AsCode, EqualCodesOrNull, kept_form};
 ghost use Rattle.sql_outcomes.specs.private.ItemValues.{EqualsHas};
 ghost use Rattle.sql_draft.specs.OperandHas.{IsInside, IsSideAt};
-ghost use Rattle.sql_draft.specs.Translated.{IsBooleanAt, IsFaultless, IsKindAt, IsTranslated, question_of};
+ghost use Rattle.sql_draft.specs.Translated.{IsKindAt, IsTranslated, question_of};
+ghost use Rattle.sql_outcomes.specs.private.NodesThere.{IsBooleanAt, IsFaultless};
 ghost use Rattle.sql_draft.specs.World.{OfPlace, Puts};
 
 use super::code::{put_code, put_compared_code};

@@ -3,7 +3,8 @@ ghost use Rattle.std.specs.Prelude.{◌≡◌, OnOk};
 ghost use Rattle.sql_tree.specs.declared.sql_node.SqlType.{SqlType};
 ghost use Rattle.sql_draft.specs.declared.sql_context.Kind.{Kind};
 ghost use Rattle.sql_outcomes.specs.private.ValueForms.{Itself, OrTruth};
-ghost use Rattle.sql_draft.specs.OperandHas.{ComparedHas, IsPut, IsTested, NullHas, OperandHas};
+ghost use Rattle.sql_draft.specs.OperandHas.{OperandHas};
+ghost use Rattle.sql_outcomes.specs.private.OperandValues.{ComparedHas, IsPut, IsTested, NullHas};
 ghost use Rattle.sql_draft.specs.Translated.{IsTranslated, question_of};
 ghost use Rattle.sql_draft.specs.World.{Puts};
 

@@ -1,7 +1,8 @@
 //! The value of a property, of a member or of a range variable.
 ghost use Rattle.std.specs.Prelude.{OnOk};
 ghost use Rattle.sql_outcomes.specs.private.ValueForms.{Itself};
-ghost use Rattle.sql_draft.specs.Translated.{HasFieldType, IsPathAt, IsTranslated, question_of};
+ghost use Rattle.sql_draft.specs.Translated.{IsPathAt, IsTranslated, question_of};
+ghost use Rattle.sql_outcomes.specs.private.NodesThere.{HasFieldType};
 ghost use Rattle.sql_draft.specs.World.{OfPlace, Puts};
 
 use odata_meaning::typed_trees_end_once_on_entities;

@@ -6,7 +6,8 @@ ghost use Rattle.sql_forms.specs.declared.terms.Form.{Form};
 ghost use Rattle.sql_outcomes.specs.private.ChainTerms.{ChainHas, IsChain, IsConnective};
 ghost use Rattle.sql_forms.specs.private.Joins.{IsJoin, IsOfValues};
 ghost use Rattle.sql_forms.specs.Forms.{IsInForm};
-ghost use Rattle.sql_draft.specs.Translated.{IsFaultless, IsTranslated, IsTruthAt, question_of};
+ghost use Rattle.sql_draft.specs.Translated.{IsTranslated, IsTruthAt, question_of};
+ghost use Rattle.sql_outcomes.specs.private.NodesThere.{IsFaultless};
 ghost use Rattle.sql_draft.specs.World.{OfPlace, Puts};
 
 use super::code::put_code;

@@ -8,8 +8,9 @@ ghost use Rattle.sql_outcomes.specs.private.FaultySides.{ComparesNothing};
 ghost use Rattle.sql_outcomes.specs.ComparedSides.{IsComparisonOf};
 ghost use Rattle.sql_forms.specs.Forms.{IsInForm};
 ghost use Rattle.sql_outcomes.specs.private.ValueForms.{Itself};
-ghost use Rattle.sql_draft.specs.OperandHas.{IsPut};
-ghost use Rattle.sql_draft.specs.Translated.{IsBooleanAt, IsFaultless, IsKindAt, IsOtherKind, IsTranslated, IsTruthAt, question_of};
+ghost use Rattle.sql_outcomes.specs.private.OperandValues.{IsPut};
+ghost use Rattle.sql_draft.specs.Translated.{IsKindAt, IsTranslated, IsTruthAt, question_of};
+ghost use Rattle.sql_outcomes.specs.private.NodesThere.{IsBooleanAt, IsFaultless, IsOtherKind};
 ghost use Rattle.sql_draft.specs.World.{OfPlace, Puts};
 
 use super::call_forms::{is_kind, put_call};

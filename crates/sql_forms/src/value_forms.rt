@@ -7,9 +7,12 @@ ghost use Rattle.odata_syntax.specs.declared.binary_operator.BinaryOperator.{Bin
 ghost use Rattle.sql_tree.specs.declared.sql_node.SqlType.{SqlType};
 ghost use Rattle.sql_outcomes.specs.Calculations.{IsComputedIn};
 ghost use Rattle.sql_outcomes.specs.private.ValueForms.{Itself};
-ghost use Rattle.sql_draft.specs.Growth.{GrowsByText};
-ghost use Rattle.sql_draft.specs.OperandHas.{HasNumber, IsLiteralAt, SourceHas};
-ghost use Rattle.sql_draft.specs.Translated.{IsKindAt, IsNulFreeAt, IsPlainAt, IsSpelled, IsTranslated, IsValuedAt, question_of};
+ghost use Rattle.sql_outcomes.specs.private.Growth.{GrowsByText};
+ghost use Rattle.sql_draft.specs.OperandHas.{HasNumber, SourceHas};
+ghost use Rattle.sql_draft.specs.private.Spelled.{IsLiteralAt};
+ghost use Rattle.sql_draft.specs.Translated.{IsKindAt, IsNulFreeAt, IsTranslated, question_of};
+ghost use Rattle.sql_outcomes.specs.private.NodesThere.{IsPlainAt, IsValuedAt};
+ghost use Rattle.sql_draft.specs.private.Spelled.{IsSpelled};
 ghost use Rattle.sql_draft.specs.World.{OfPlace, Puts};
 ghost use Rattle.sql_draft.specs.declared.sql_operand.Source.{Source};
 

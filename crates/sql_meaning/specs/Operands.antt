@@ -36,7 +36,3 @@ abbrev pub BothNumbers : Option ℤ → Option ℤ → (ℤ → ℤ → Outcome 
 BothNumbers (Some a) (Some b) Goes o = Goes a b o
 BothNumbers (Some a) None Goes o = o ≡ gives null
 BothNumbers None right Goes o = o ≡ gives null
-
--- nothing comes of it: the operator is outside its domain
-abbrev pub OutsideDomain : Outcome → Type 0
-OutsideDomain o = ⊥

@@ -13,7 +13,8 @@ pub use Rattle.edm_values.specs.declared.value.Value.{Value}
 pub use Rattle.odata_checked_filter.proofs.flat.Numbered.{numbered}
 pub use Rattle.odata_checked_filter.proofs.flat.Standing.{lie_onward}
 pub use Rattle.odata_checked_filter.specs.Filter.{Filter, IsFilter}
-pub use Rattle.odata_checked_filter.specs.Stands.{AllStand, IsCallNode, IsLiteralNode, IsMemberNode, IsNameNode, IsValueOf, ItemsStand, Stands, variable_names}
+pub use Rattle.odata_checked_filter.specs.Stands.{IsCallNode, IsLiteralNode, IsMemberNode, IsNameNode, IsValueOf, Stands, variable_names}
+pub use Rattle.odata_checked_filter.specs.private.Stands.{AllStand, ItemsStand}
 pub use Rattle.odata_checked_filter.specs.declared.checked_node.CheckedNode.{CheckedNode}
 pub use Rattle.odata_checked_filter.specs.declared.checked_node.NodeKind.{NodeKind}
 pub use Rattle.odata_checked_filter.specs.private.Layout.{Lies}
@@ -90,12 +91,16 @@ pub use Rattle.sql_draft.proofs.PathKinds.{IsOnWay, tree_on_way}
 pub use Rattle.sql_draft.proofs.PathLeads.{path_says}
 pub use Rattle.sql_draft.proofs.Places.{by_kind, found_is, stop_is}
 pub use Rattle.sql_draft.specs.Growth.{Grows, IsFront}
-pub use Rattle.sql_draft.specs.Kinds.{AreAlike, AreCompared, IsOfKind, kind_of_single, kind_of_type, single_of}
-pub use Rattle.sql_draft.specs.OperandHas.{Fits, HasNumber, IsInside, IsNodeAt, IsNodeOperand, IsNumberOperand, IsPut, IsReadAt, IsSideAt, IsSourceOf, IsTestable, IsTested, OperandHas, SourceHas, as_compared, bound_source, carrier_of}
+pub use Rattle.sql_draft.specs.Kinds.{AreCompared, IsOfKind, kind_of_single, kind_of_type, single_of}
+pub use Rattle.sql_outcomes.specs.private.Alike.{AreAlike}
+pub use Rattle.sql_draft.specs.OperandHas.{Fits, HasNumber, IsInside, IsNodeAt, IsNodeOperand, IsNumberOperand, IsReadAt, IsSideAt, OperandHas, SourceHas, bound_source, carrier_of}
+pub use Rattle.sql_outcomes.specs.private.OperandValues.{IsPut, IsSourceOf, IsTestable, IsTested, as_compared}
 pub use Rattle.sql_draft.specs.Paths.{IsPathTo}
 pub use Rattle.sql_draft.specs.Rows.{IsFault}
-pub use Rattle.sql_draft.specs.Translated.{AreRanges, HasFieldType, IsCarriedKind, IsFaultless, IsKindAt, IsOfTypeAt, IsOtherKind, IsPathAt, IsPlainAt, IsStep, IsTruthAt, IsTruthKind, IsValuedAt}
-pub use Rattle.sql_draft.specs.World.{Has, IsAskedOf, IsWorldOf, OfPlace, Puts, PutsAll, Question, StandsAt, World, extended}
+pub use Rattle.sql_draft.specs.Translated.{AreRanges, IsCarriedKind, IsKindAt, IsOfTypeAt, IsPathAt, IsStep, IsTruthAt, IsTruthKind}
+pub use Rattle.sql_outcomes.specs.private.NodesThere.{HasFieldType, IsFaultless, IsOtherKind, IsPlainAt, IsValuedAt}
+pub use Rattle.sql_draft.specs.World.{Has, IsAskedOf, IsWorldOf, OfPlace, Puts, Question, StandsAt, World}
+pub use Rattle.sql_outcomes.specs.private.Worlds.{PutsAll, extended}
 pub use Rattle.sql_draft.specs.declared.draft.Draft.{Draft}
 pub use Rattle.sql_draft.specs.declared.sql_context.Kind.{Kind}
 pub use Rattle.sql_draft.specs.declared.sql_operand.Operand.{Operand}

@@ -3,7 +3,7 @@ use Rattle.std.proofs.Common.{◌≡◌, ◌<◌, ℕ, zero, suc, ◌+◌, List,
 use Rattle.std.specs.Prelude.{unwrap_or}
 use Rattle.sql_tree.specs.FixedPieces.{PieceTexts}
 use Rattle.sql_tree.specs.NodePieces.{fixed_pieces, named_pieces, node_pieces, pieces_for_codes}
-use Rattle.sql_tree.specs.PiecesView.{pieces_around, pieces_in}
+use Rattle.sql_tree.specs.private.PiecesView.{pieces_around, pieces_in}
 use Rattle.sql_tree.specs.TableDigits.{arity_of_table}
 use Rattle.sql_tree.specs.TableModel.{TableModel}
 use Rattle.sql_tree.specs.declared.dialect.Dialect.{Dialect}

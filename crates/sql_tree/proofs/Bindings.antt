@@ -3,7 +3,7 @@ use Rattle.std.proofs.Common.{◌≡◌, ◌≤◌, ◌<◌, ℕ, zero, suc, ◌
 use Rattle.std.specs.Prelude.{codes}
 use Rattle.sql_tree.specs.FixedPieces.{collation}
 use Rattle.sql_tree.specs.NodePieces.{binding_pieces, item_pieces, let_end, let_pieces, list_pieces, name_of_bound}
-use Rattle.sql_tree.specs.PiecesView.{piece_at}
+use Rattle.sql_tree.specs.private.PiecesView.{piece_at}
 use Rattle.sql_tree.specs.declared.dialect.Dialect.{Dialect}
 
 -- ---- bound values

@@ -2,7 +2,7 @@
 use Rattle.std.proofs.Common.{◌≡◌, ◌∙◌, ◌≤◌, ◌<◌, ℕ, zero, suc, List, [], ◌∷◌, ◌++◌, Some, Bor, length, map, refl, ap, subst, arith, append-nil, append_assoc, slice_get}
 use Rattle.std.specs.Prelude.{codes, unwrap_or}
 use Rattle.sql_tree.specs.NodePieces.{digit_end, digit_start, pieces_for_codes, place_cast}
-use Rattle.sql_tree.specs.PiecesView.{piece_at}
+use Rattle.sql_tree.specs.private.PiecesView.{piece_at}
 use Rattle.sql_tree.specs.TableDigits.{arity_of_table, table_text}
 use Rattle.sql_tree.specs.TableModel.{HasColumn, column_name, storage_in}
 use Rattle.sql_tree.specs.declared.dialect.Dialect.{Dialect}

@@ -4,7 +4,7 @@ use Rattle.std.specs.Prelude.{IsSomeAnd, codes}
 use Rattle.sql_tree.specs.FixedPieces.{PieceTexts}
 use Rattle.sql_tree.specs.NodePieces.{exists_pieces, least_pieces, node_pieces, of_path}
 use Rattle.sql_tree.specs.PathText.{IsPathOf, base_text, dots_text, extracted_text, members_text}
-use Rattle.sql_tree.specs.PiecesView.{piece_at}
+use Rattle.sql_tree.specs.private.PiecesView.{piece_at}
 use Rattle.sql_tree.specs.TableModel.{TableModel}
 use Rattle.sql_tree.specs.TreeText.{NamesWhatIs}
 use Rattle.sql_tree.specs.declared.dialect.Dialect.{Dialect}

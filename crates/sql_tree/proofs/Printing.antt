@@ -5,7 +5,7 @@ use Rattle.std.specs.Prelude.{MatchOption}
 use Rattle.std.proofs.lemmas.List.{drop_more, reverse-append}
 use Rattle.sql_tree.specs.FixedPieces.{PieceTexts}
 use Rattle.sql_tree.specs.NodePieces.{node_pieces}
-use Rattle.sql_tree.specs.PiecesView.{piece_at}
+use Rattle.sql_tree.specs.private.PiecesView.{piece_at}
 use Rattle.sql_tree.specs.TableModel.{TableModel}
 use Rattle.sql_tree.specs.Term.{Term, term, no_terms, more_terms, nodes_of, nodes_of_all}
 use Rattle.sql_tree.specs.TreeText.{CountsFit, IsWhole, NamesWhatIs, text_of, woven}

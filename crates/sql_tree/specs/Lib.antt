@@ -11,7 +11,6 @@ pub mod Numbered
 pub mod Parentheses
 pub mod ParserDepth
 pub mod PathText
-pub mod PiecesView
 pub mod Printed
 pub mod QuotedName
 pub mod Shapes

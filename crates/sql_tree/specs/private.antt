@@ -2,5 +2,6 @@
 pub mod Depths
 pub mod Functions
 pub mod LeafText
+pub mod PiecesView
 pub mod PrinterFrames
 pub mod SqlPrinter

@@ -2,7 +2,7 @@
 //! collation of a column.
 ghost use Rattle.std.specs.Prelude.{◌≡◌};
 ghost use Rattle.sql_tree.specs.FunctionPieces.{function_pieces as function_texts, postgres_function, sqlite_function};
-ghost use Rattle.sql_tree.specs.PiecesView.{pieces_in};
+ghost use Rattle.sql_tree.specs.private.PiecesView.{pieces_in};
 ghost use Rattle.sql_tree.specs.private.Functions.{IsOfTime, number_function};
 
 use super::dialect::Dialect;

@@ -8,7 +8,7 @@ ghost use Rattle.sql_tree.specs.FixedPieces.{plain_pieces as plain_texts, range_
 ghost use Rattle.sql_tree.specs.FixedPieces.{sameness_pieces as sameness_texts, unfault_pieces as unfault_texts};
 ghost use Rattle.sql_tree.specs.FixedPieces.{wide_pieces as wide_texts};
 ghost use Rattle.sql_tree.specs.NodePieces.{fixed_pieces};
-ghost use Rattle.sql_tree.specs.PiecesView.{piece_at, pieces_in};
+ghost use Rattle.sql_tree.specs.private.PiecesView.{piece_at, pieces_in};
 
 use super::dialect::Dialect;
 use super::functions::function_pieces;

@@ -14,7 +14,7 @@ pub(crate) struct Pieces {
 
 impl Pieces {
     ghost use Rattle.std.specs.Prelude.{◌≡◌, ◌≤◌};
-    ghost use Rattle.sql_tree.specs.PiecesView.{piece_at, pieces_in};
+    ghost use Rattle.sql_tree.specs.private.PiecesView.{piece_at, pieces_in};
 
     /// The piece after so many children.
     pub(crate) fn after(&self, done: usize) -> &'static str

@@ -3,7 +3,7 @@ ghost use Rattle.std.specs.Prelude.{◌≡◌, ◌<◌, ◌+◌, ◌^◌, ◌++�
 ghost use Rattle.sql_tree.specs.FixedPieces.{collation};
 ghost use Rattle.sql_tree.specs.NodePieces.{decision_text, decisions_text, let_pieces, list_pieces, node_pieces};
 ghost use Rattle.sql_tree.specs.NodePieces.{pieces_for_codes};
-ghost use Rattle.sql_tree.specs.PiecesView.{piece_at};
+ghost use Rattle.sql_tree.specs.private.PiecesView.{piece_at};
 ghost use Rattle.sql_tree.specs.TableDigits.{arity_of_table};
 ghost use Rattle.sql_tree.specs.TableModel.{table_in};
 ghost use Rattle.sql_tree.specs.TreeText.{CountsFit, NamesWhatIs};

@@ -1,7 +1,7 @@
 //! The text of a tree, in one pass over its nodes.
 ghost use Rattle.std.specs.Prelude.{◌≡◌, ◌++◌, ℕ, List, IfOk, OnOk, length, reverse, string_bytes};
 ghost use Rattle.sql_tree.specs.NodePieces.{node_pieces};
-ghost use Rattle.sql_tree.specs.PiecesView.{piece_at};
+ghost use Rattle.sql_tree.specs.private.PiecesView.{piece_at};
 ghost use Rattle.sql_tree.specs.TableModel.{table_in};
 ghost use Rattle.sql_tree.specs.TreeText.{CountsFit, NamesWhatIs};
 ghost use Rattle.sql_tree.specs.Printed.{IsOfTree, IsTextOf};

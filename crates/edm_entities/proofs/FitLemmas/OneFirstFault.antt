@@ -11,7 +11,8 @@ use Rattle.csdl_schema.specs.ExprType.{ExprType, null_type, single, collection, 
 use Rattle.csdl_schema.specs.SchemaModel.{Slots, PropertyModel, PropertyType, declared, opaque, navigation, slots_behind}
 use Rattle.edm_entities.specs.FitsPrimitive.{Flaw, wrong_kind, out_of_range, bad_text, TextMeaning, IsTextValue, IsMemberText, OnWrongKind, IsNumberFlaw, IsTextFlaw, IsPrimitiveFlaw}
 use Rattle.edm_entities.specs.Fits.{takes_null}
-use Rattle.edm_entities.specs.RowFaults.{Path, IsFlawHere, IsFoundFault, HasFitting, HasFittingItem, IsFirstProperty, IsFirstItem, IsValueFault, IsPropertyFault, IsFirstFault}
+use Rattle.edm_entities.specs.RowFaults.{Path, IsFlawHere, IsFoundFault, HasFitting, HasFittingItem, IsFirstProperty, IsFirstItem, IsValueFault, IsFirstFault}
+use Rattle.edm_entities.specs.private.Walk.{IsPropertyFault}
 use Rattle.edm_entities.proofs.FitLemmas.RowFaultRefuses.{kind_clash, held_clash, item_clash, type_clash}
 
 kind_alone : (P : Type 0) (flaw : Flaw) → OnWrongKind flaw P → flaw ≡ wrong_kind

@@ -11,7 +11,8 @@ use Rattle.csdl_schema.specs.ExprType.{ExprType, null_type, single, collection, 
 use Rattle.csdl_schema.specs.SchemaModel.{Slots, PropertyModel, PropertyType, declared, opaque, navigation, slots_behind}
 use Rattle.edm_entities.specs.Fits.{takes_null, FitsFound, FitsNavigation, FitsRecord, FitsType, FitsProperty, FitItems, Fits}
 use Rattle.edm_entities.specs.FitsPrimitive.{Flaw, missing, wrong_kind, null_not_allowed, out_of_range, bad_text, not_expanded, FitsNumber, FitsPrimitive, FitsText, TextMeaning, IsTextValue, IsMemberText, OnWrongKind, IsNumberFlaw, IsTextFlaw, IsPrimitiveFlaw}
-use Rattle.edm_entities.specs.RowFaults.{Path, IsFlawHere, IsFoundFault, HasFittingItem, IsFirstProperty, IsValueFault, IsPropertyFault, IsFirstFault, IsFirstFaultAt, IsRowFault}
+use Rattle.edm_entities.specs.RowFaults.{Path, IsFlawHere, IsFoundFault, HasFittingItem, IsFirstProperty, IsValueFault, IsFirstFault, IsFirstFaultAt, IsRowFault}
+use Rattle.edm_entities.specs.private.Walk.{IsPropertyFault}
 use Rattle.edm_entities.specs.declared.row_fault.RowFault.{RowFault}
 use Rattle.edm_entities.specs.declared.row_fault.RowFault.TheVariants.{NotObject, Missing, WrongKind, NullNotAllowed, OutOfRange, BadText, NotExpanded, Memory}
 

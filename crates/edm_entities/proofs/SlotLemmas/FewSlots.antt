@@ -1,6 +1,7 @@
 -- A record of few values is what a record with null in every other slot is.
 use Rattle.std.proofs.Common.{◌≡◌, inl, inr, ◌==◌, ℕ, zero, suc, Bool, true, false, List, [], ◌∷◌, map, length, Vec, Global, refl, rules, sym, ap, ◌∙◌, subst}
-use Rattle.edm_values.specs.Sparse.{AreBeside, IsRecordOf, beside, by_slot}
+use Rattle.edm_values.specs.Sparse.{AreBeside, beside, by_slot}
+use Rattle.edm_entities.specs.private.Walk.{IsRecordOf}
 use Rattle.edm_values.specs.declared.value.Value.{Value, Null, Record, Sparse, the_lemmas}
 use Rattle.csdl_schema.specs.ExprType.{ExprType, single, structured}
 use Rattle.csdl_schema.specs.SchemaModel.{Slots}

@@ -14,9 +14,11 @@ use Rattle.csdl_schema.specs.declared.property.PropertyKind.TheVariants as kind
 use Rattle.edm_entities.specs.Fits.{takes_null, FitsFound, FitsNavigation, FitsType, FitsProperty}
 use Rattle.edm_entities.specs.FitsPrimitive.{Flaw, missing, null_not_allowed, not_expanded}
 use Rattle.edm_entities.specs.Row.{field_of, val_of}
-use Rattle.edm_entities.specs.RowFaults.{Path, IsFoundFault, IsValueFault, IsPropertyFault}
+use Rattle.edm_entities.specs.RowFaults.{Path, IsFoundFault, IsValueFault}
+use Rattle.edm_entities.specs.private.Walk.{IsPropertyFault}
 use Rattle.edm_entities.specs.private.Faults.{OnFlaw, IsFaultOf}
-use Rattle.edm_row_plans.specs.Expanded.{may_hold_null, navigates, node_behind, slots_at, target_if, wanted_of, wanted_target}
+use Rattle.edm_row_plans.specs.Expanded.{may_hold_null, navigates, node_behind, slots_at, target_if, wanted_target}
+use Rattle.edm_entities.specs.private.Walk.{wanted_of}
 use Rattle.edm_entities.specs.private.Walk.{wanted_single}
 use Rattle.edm_entities.specs.declared.flaw.ReadFlaw.{ReadFlaw}
 use Rattle.edm_entities.specs.declared.flaw.ReadFault.{ReadFault}

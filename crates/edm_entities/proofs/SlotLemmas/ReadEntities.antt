@@ -9,7 +9,8 @@ use Rattle.csdl_schema.specs.PathSet.{PropertyPath, no_paths}
 use Rattle.csdl_schema.specs.ExprType.{ExprType, single, structured}
 use Rattle.csdl_schema.specs.SchemaModel.{SchemaModel, Slots, HasDistinctNames, HoldsType, expanded, slots_of, type_name_at, properties_at}
 use Rattle.edm_entities.specs.Fits.{Fits, FitsType}
-use Rattle.edm_entities.specs.Row.{IsEntity, expanded_by, row_of, val_of, record_of, list_of, value_of}
+use Rattle.edm_entities.specs.Row.{IsEntity, expanded_by, val_of, record_of, list_of, value_of}
+use Rattle.edm_entities.specs.private.Walk.{row_of}
 use Rattle.edm_entities.specs.private.Walk.{FitsSlot, FitSlots}
 use Rattle.edm_entities.proofs.SlotLemmas.EachSlot.{slots_held}
 use Rattle.edm_entities.proofs.SlotLemmas.SlotsByName.{record_fits, as_many}

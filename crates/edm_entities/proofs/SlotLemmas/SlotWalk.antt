@@ -12,7 +12,8 @@ use Rattle.csdl_schema.specs.declared.property.Property.{Property}
 use Rattle.edm_entities.specs.Fits.{FitsProperty}
 use Rattle.edm_entities.specs.FitsPrimitive.{Flaw}
 use Rattle.edm_entities.specs.Row.{field_of, val_of}
-use Rattle.edm_entities.specs.RowFaults.{Path, HasFitting, IsPropertyFault, IsValueFault}
+use Rattle.edm_entities.specs.RowFaults.{Path, HasFitting, IsValueFault}
+use Rattle.edm_entities.specs.private.Walk.{IsPropertyFault}
 use Rattle.edm_entities.specs.private.Faults.{IsFaultOf, IsBelow}
 use Rattle.edm_entities.specs.private.Walk.{HoldEach, FitsSlot, FitSlots, HoldsInSlot}
 use Rattle.edm_entities.specs.declared.flaw.ReadFault.{ReadFault}

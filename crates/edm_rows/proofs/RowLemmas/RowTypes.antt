@@ -13,7 +13,8 @@ use Rattle.edm_values.specs.NumberTypes.{IsNumberType}
 use Rattle.edm_values.specs.declared.primitive.PrimitiveType.{PrimitiveType}
 use Rattle.edm_values.specs.declared.primitive.PrimitiveType.TheVariants as prim
 use Rattle.edm_values.specs.declared.value.Value.{Null}
-use Rattle.edm_row_plans.specs.Expanded.{may_hold_null, slots_at, wanted_of, wanted_with}
+use Rattle.edm_row_plans.specs.Expanded.{may_hold_null, slots_at, wanted_with}
+use Rattle.edm_entities.specs.private.Walk.{wanted_of}
 use Rattle.edm_row_plans.specs.Plans.{IsSlotPlan}
 use Rattle.edm_row_plans.specs.declared.type_plan.SlotPlan.{SlotPlan}
 use Rattle.edm_row_plans.specs.declared.type_plan.TypePlan.{TypePlan}

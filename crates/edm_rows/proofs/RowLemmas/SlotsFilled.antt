@@ -7,7 +7,8 @@ use Rattle.csdl_schema.specs.PropertyView.{property_type, target_of}
 use Rattle.csdl_schema.specs.SchemaModel.{SchemaModel, Slots}
 use Rattle.csdl_schema.specs.declared.property.Property.{Property}
 use Rattle.edm_values.specs.declared.value.Value.{Value, Null}
-use Rattle.edm_row_plans.specs.Expanded.{may_hold_null, slots_at, wanted_of, wanted_with}
+use Rattle.edm_row_plans.specs.Expanded.{may_hold_null, slots_at, wanted_with}
+use Rattle.edm_entities.specs.private.Walk.{wanted_of}
 use Rattle.edm_row_plans.specs.Plans.{IsSlotPlan}
 use Rattle.edm_row_plans.specs.declared.type_plan.SlotPlan.{SlotPlan}
 use Rattle.edm_row_plans.specs.declared.type_plan.TypePlan.{TypePlan}

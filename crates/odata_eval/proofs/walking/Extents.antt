@@ -16,7 +16,8 @@ use Rattle.odata_eval.specs.private.Place.{HasKind, IsRightOf, OperandStands, Pa
 use Rattle.odata_eval.specs.private.EvalContext.{OperandHere, StandsHere, TypedHere}
 use Rattle.odata_eval.specs.private.ContextModel.{ContextModel, environment_of}
 use Rattle.odata_eval.specs.private.WalkClass.{walk_of_operator}
-use Rattle.odata_checked_filter.specs.Stands.{AllStand, ResolvedStands, ItemsStand, NumberStands, SideBySide, Stands}
+use Rattle.odata_checked_filter.specs.Stands.{ResolvedStands, NumberStands, SideBySide, Stands}
+use Rattle.odata_checked_filter.specs.private.Stands.{AllStand, ItemsStand}
 use Rattle.odata_syntax.specs.declared.node.LiteralKind.{LiteralKind}
 use Rattle.odata_signatures.specs.Typed.{Scope, Typed, with_variable}
 use Rattle.csdl_schema.specs.SchemaModel.{SchemaModel, slots_of, type_name_at}

@@ -21,7 +21,8 @@ use Rattle.odata_signatures.specs.QuotedNumber.{ResolvedNumber}
 use Rattle.odata_signatures.specs.Laws.{OneType}
 use Rattle.odata_signatures.specs.Sides.{quoted_text, side_of, sides_of}
 use Rattle.odata_checked_filter.specs.Calls.{TakesMemory}
-use Rattle.odata_checked_filter.specs.Stands.{ItemsStand, SideBySide}
+use Rattle.odata_checked_filter.specs.Stands.{SideBySide}
+use Rattle.odata_checked_filter.specs.private.Stands.{ItemsStand}
 use Rattle.odata_checked_filter.specs.declared.checked_node.NodeKind.{NodeKind}
 use Rattle.odata_filter_operations.specs.declared.eval_fault.EvalFault.{EvalFault}
 use Rattle.odata_filter_operations.specs.CompareGives.{CompareGives}

@@ -38,7 +38,7 @@ use Rattle.odata_eval.specs.private.WalkClass.{walk_of_kind, walk_of_operator}
 use Rattle.odata_signatures.specs.Functions.{IsNamed, row_of}
 use Rattle.odata_signatures.specs.declared.function.Function.{Function}
 use Rattle.odata_signatures.specs.CallTyped.{CallTyped}
-use Rattle.odata_checked_filter.specs.Stands.{AllStand}
+use Rattle.odata_checked_filter.specs.private.Stands.{AllStand}
 use Rattle.odata_signatures.specs.Typed.{AreTyped}
 use Rattle.odata_meaning.specs.Means.{ArgumentsMean}
 use Rattle.odata_filter_operations.specs.CallGives.{CallGives}

@@ -1,7 +1,7 @@
 -- For private clauses: a range of what a function evaluates to.
 use Rattle.std.specs.Prelude.{◌≡◌, false}
 use Rattle.odata_checked_filter.specs.declared.checked_node.NodeKind.{NodeKind}
-use Rattle.odata_ranges.specs.FunctionRanges.{CalledWithin}
+use Rattle.odata_ranges.specs.private.FunctionRanges.{CalledWithin}
 use Rattle.odata_ranges.specs.Faults.{MakesNone}
 use Rattle.odata_ranges.specs.declared.range.Range.{Range}
 use Rattle.odata_signatures.specs.declared.edm_type.EdmType.{EdmType}

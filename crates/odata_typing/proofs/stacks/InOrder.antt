@@ -2,7 +2,7 @@
 use Rattle.odata_typing.proofs.Common.{◌≡◌, sym, subst, ◌∙◌, inl, inr, ℕ, ◌<◌, ◌≤◌, List, [], ◌∷◌, ◌++◌, arith, Contains, IsWithin, children_of, in_child, is_root, Shape, Tree, lambda, shape_of, start_of, stop_of, Slots, IsAmong, IsConsidered, IsConsideredBody, IsConsideredChild, children_in_scope, considers_below, considers_itself, IsFirstUntypable, FirstBelow, TypedIsClear, Scope, TypeFault}
 use Rattle.std.proofs.lemmas.List.Elements.{Contains-append_left, Contains-append_right, Contains-push}
 use Rattle.odata_syntax.specs.Parse.{IsExpression}
-use Rattle.odata_signatures.specs.FirstAmong.{IsFirstAmong}
+use Rattle.odata_typing.specs.private.FirstAmong.{IsFirstAmong}
 use Rattle.odata_typing.specs.private.SpanLaws.{SpanLaws}
 use Rattle.odata_typing.proofs.stacks.Onward.{within_whole}
 use Rattle.odata_typing.proofs.untypable.Untypable.{AllStartFrom, AllTyped, IsBodiless, below_node, first_in_back, first_in_front, one_of, typed_start}

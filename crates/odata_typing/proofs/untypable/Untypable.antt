@@ -1,6 +1,7 @@
 -- The first untypable node among trees one after another.
 use Rattle.odata_typing.proofs.Common.{◌≡◌, refl, inl, inr, ◌⊎◌, ℕ, ◌≤◌, List, [], ◌∷◌, ◌++◌, subst, arith, AllByRecursion, Shape, Tree, node, shape_of, start_of, Slots, TypeFault, ChildrenTyped, IsAmong, IsConsideredBody, children_in_scope, IsFirstUntypable, IsReason, IsUntypable, TypedIsClear, IsTyped, IsUntyped, Scope, LawsBelow}
-use Rattle.odata_signatures.specs.FirstAmong.{IsFirstAmong, IsFirstBelow, StartFrom}
+use Rattle.odata_signatures.specs.FirstAmong.{IsFirstBelow, StartFrom}
+use Rattle.odata_typing.specs.private.FirstAmong.{IsFirstAmong}
 
 -- trees in one scope that all have types
 abbrev pub AllTyped : Slots → List ℕ → Scope → List Tree → Type 0

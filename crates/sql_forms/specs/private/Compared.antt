@@ -9,7 +9,7 @@ use Rattle.sql_draft.specs.Rows.{IsFault}
 use Rattle.sql_tree.specs.declared.sql_node.SqlType.{SqlType}
 use Rattle.sql_draft.specs.declared.sql_operand.Operand.{Operand}
 use Rattle.sql_draft.specs.declared.sql_context.Kind.{Kind}
-use Rattle.sql_draft.specs.OperandHas.{HasLoosely, HasValue}
+use Rattle.sql_outcomes.specs.private.OperandValues.{HasLoosely, HasValue}
 use Rattle.sql_draft.specs.World.{Has}
 use Rattle.sql_outcomes.specs.private.FaultySides.{compared_in}
 

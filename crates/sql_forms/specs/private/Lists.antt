@@ -18,7 +18,8 @@ use Rattle.sql_draft.specs.declared.sql_context.Kind.{Kind}
 use Rattle.sql_outcomes.specs.ComparedSides.{FaultyHave, HasOrCode, NoTruth}
 use Rattle.sql_draft.specs.Kinds.{kind_of_single}
 use Rattle.sql_outcomes.specs.OperandFaults.{carrier_in}
-use Rattle.sql_draft.specs.OperandHas.{ComparedHas, Fits, HasLoosely, HasValue}
+use Rattle.sql_draft.specs.OperandHas.{Fits}
+use Rattle.sql_outcomes.specs.private.OperandValues.{ComparedHas, HasLoosely, HasValue}
 use Rattle.sql_draft.specs.World.{Has, World}
 use Rattle.sql_outcomes.specs.Items.{some_of, any_of, EachCompared, MembersAt, EachMemberEquals}
 use Rattle.sql_outcomes.specs.private.ItemValues.{EqualsHas, IsNeverNull}

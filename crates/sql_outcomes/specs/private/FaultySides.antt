@@ -11,7 +11,7 @@ use Rattle.sql_tree.specs.declared.sql_node.SqlType.{SqlType}
 use Rattle.sql_draft.specs.declared.sql_operand.Operand.{Operand}
 use Rattle.sql_draft.specs.declared.sql_operand.Source.{Source}
 use Rattle.sql_draft.specs.declared.sql_context.Kind.{Kind}
-use Rattle.sql_draft.specs.OperandHas.{IsTested, SidesHave, SomeNull}
+use Rattle.sql_outcomes.specs.private.OperandValues.{IsTested, SidesHave, SomeNull}
 use Rattle.sql_draft.specs.Translated.{IsTruthAt}
 use Rattle.sql_draft.specs.World.{Has}
 

@@ -12,7 +12,7 @@ use Rattle.odata_ranges.specs.declared.range.Range.{Range}
 use Rattle.sql_draft.specs.declared.sql_operand.Operand.{Operand}
 use Rattle.sql_draft.specs.declared.sql_context.Kind.{Kind}
 use Rattle.sql_draft.specs.Kinds.{AreCompared, kind_of_single}
-use Rattle.sql_draft.specs.OperandHas.{HasValue, IsTested}
+use Rattle.sql_outcomes.specs.private.OperandValues.{HasValue, IsTested}
 use Rattle.sql_draft.specs.World.{World}
 use Rattle.sql_outcomes.specs.Items.{some_of}
 use Rattle.sql_tree.specs.declared.sql_node.SqlNode.{SqlNode}

@@ -2,7 +2,8 @@ use Rattle.std.proofs.Common.{◌∙◌, sym, subst, List, ℕ, chars}
 use Rattle.odata_text.specs.Identifier.{is_identifier}
 use Rattle.csdl_declarations.specs.Declarations.{full_name}
 use Rattle.csdl_declarations.specs.Fault.{bad_type}
-use Rattle.csdl_declarations.specs.FaultView.{fault_of, ReportsFault}
+use Rattle.csdl_declarations.specs.FaultView.{fault_of}
+use Rattle.csdl_declarations.specs.private.FaultView.{ReportsFault}
 use Rattle.csdl_declarations.specs.Faults.{body_faults}
 use Rattle.csdl_declarations.specs.private.DocumentView.{declaration_view}
 use Rattle.csdl_declarations.proofs.Reading.{first_of_more, unless_first}

@@ -1,7 +1,8 @@
 use Rattle.std.proofs.Common.{◌≡◌, ◌<◌, ◌≤◌, ◌+◌, ◌∙◌, ◌∷◌, [], List, ℕ, Some, None, Bor, length, option_map, sym, ap, subst, string_bytes, arith}
 use Rattle.std.proofs.lemmas.Option.{slice_get-map}
 use Rattle.csdl_declarations.specs.Fault.{property_twice}
-use Rattle.csdl_declarations.specs.FaultView.{fault_of, ReportsFault}
+use Rattle.csdl_declarations.specs.FaultView.{fault_of}
+use Rattle.csdl_declarations.specs.private.FaultView.{ReportsFault}
 use Rattle.csdl_schema.specs.BaseFaults.{property_limit, twice_faults}
 use Rattle.csdl_schema.specs.private.Placed.{count_at, own_at, own_of}
 use Rattle.csdl_schema.specs.private.PlacedView.{placed_of, placed_view}

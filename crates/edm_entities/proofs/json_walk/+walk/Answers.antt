@@ -12,12 +12,14 @@ use Rattle.edm_entities.specs.Fits.{FitsFound, FitsType, FitsProperty}
 use Rattle.edm_entities.specs.FitsPrimitive.{Flaw, FitsPrimitive, FitsText, IsMemberText}
 use Rattle.edm_entities.specs.HoldsEachSlot.{HoldsEachSlot}
 use Rattle.edm_entities.specs.Row.{field_of, val_of}
-use Rattle.edm_entities.specs.RowFaults.{Path, IsFoundFault, IsValueFault, IsPropertyFault}
+use Rattle.edm_entities.specs.RowFaults.{Path, IsFoundFault, IsValueFault}
+use Rattle.edm_entities.specs.private.Walk.{IsPropertyFault}
 use Rattle.edm_entities.specs.private.Faults.{IsFaultOf}
-use Rattle.edm_row_plans.specs.Expanded.{slots_at, slots_in, wanted_with}
+use Rattle.edm_row_plans.specs.Expanded.{slots_at, wanted_with}
+use Rattle.edm_entities.specs.private.Walk.{slots_in}
 use Rattle.edm_entities.specs.private.Walk.{FitsSlot, HoldsInSlot, wanted_single}
 use Rattle.edm_entities.specs.declared.flaw.ReadFlaw.TheVariants as code
-use Rattle.edm_values.specs.Sparse.{IsRecordOf}
+use Rattle.edm_entities.specs.private.Walk.{IsRecordOf}
 use Rattle.edm_values.specs.declared.value.Value.{Null}
 use Rattle.edm_entities.proofs.SlotLemmas.Depth.{found_measure, found_less, item_within, measure_of, rank_found, rank_single, rank_slots}
 use Rattle.edm_entities.proofs.SlotLemmas.EachSlot.{IsLookedAt, null_holds, null_in_slot, held_seen, primitive_holds, member_holds, slots_held, list_held, holds_push, holds_as}

@@ -3,7 +3,7 @@ use Rattle.serde_json.specs.Data.{depth, items_depth}
 use Rattle.serde_json.specs.View.{view, items_view}
 use Rattle.csdl_schema.specs.SchemaModel.{properties_at}
 use Rattle.edm_entities.specs.private.PropertyCursor.{IsCursor}
-use Rattle.edm_row_plans.specs.Expanded.{slots_in}
+use Rattle.edm_entities.specs.private.Walk.{slots_in}
 use Rattle.edm_entities.specs.private.MemberWalk.{IsWalkOf}
 use Rattle.edm_entities.specs.private.Walk.{FitSlots, FitList, HoldInItems, wanted_single}
 use Rattle.edm_entities.proofs.SlotLemmas.Depth.{found_measure, measure_of, rank_found, rank_single, rank_slots, rank_value}

@@ -3,7 +3,7 @@ use Rattle.odata_checked_filter.specs.declared.checked_node.CheckedNode.{Checked
 use Rattle.odata_eval.proofs.walking.Parts.{found_there, there_found}
 use Rattle.odata_ranges.specs.Owners.{NamesSlotOf}
 use Rattle.sql_tree.specs.declared.json_path.Step.{Step}
-use Rattle.sql_draft.specs.Paths.{StepsLead}
+use Rattle.sql_draft.specs.private.Paths.{StepsLead}
 use Rattle.sql_draft.specs.Translated.{question_of}
 use Rattle.sql_draft.proofs.PathsPut.{path_ok, step_up}
 use Rattle.sql_draft.proofs.paths.put_path.Goals as goal

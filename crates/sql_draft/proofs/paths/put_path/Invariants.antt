@@ -1,5 +1,5 @@
 use Rattle.std.proofs.Common.{◌-◌, ◌≤◌}
-use Rattle.sql_draft.specs.Paths.{StepsLead}
+use Rattle.sql_draft.specs.private.Paths.{StepsLead}
 use Rattle.sql_draft.specs.Translated.{question_of}
 use Rattle.sql_draft.proofs.paths.put_path.Given as goal
 

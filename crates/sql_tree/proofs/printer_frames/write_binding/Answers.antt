@@ -1,7 +1,7 @@
 use Rattle.std.proofs.Common.{◌≡◌, ◌≤◌, ◌+◌, ◌-◌, ◌++◌, ◌∙◌, sym, ap, arith, string_bytes}
 use Rattle.std.specs.Prelude.{codes}
 use Rattle.sql_tree.specs.NodePieces.{let_end, let_pieces, name_of_bound}
-use Rattle.sql_tree.specs.PiecesView.{piece_at}
+use Rattle.sql_tree.specs.private.PiecesView.{piece_at}
 use Rattle.sql_tree.specs.declared.dialect.Dialect.{Dialect}
 use Rattle.sql_tree.proofs.Bindings.{length_let, value_before, value_last}
 use Rattle.sql_tree.proofs.Written.{pushed_more, written_more}

@@ -1,6 +1,6 @@
 use Rattle.std.proofs.Common.{◌≤◌, ◌∙◌, sym, ap, arith, string_bytes}
 use Rattle.sql_tree.specs.NodePieces.{list_pieces}
-use Rattle.sql_tree.specs.PiecesView.{piece_at}
+use Rattle.sql_tree.specs.private.PiecesView.{piece_at}
 use Rattle.sql_tree.proofs.Bindings.{comma_after, length_list, list_end}
 use Rattle.sql_tree.proofs.Written.{pushed_as}
 use Rattle.sql_tree.proofs.printer_frames.write_item.Goals.{then-done-count, else-done-count}

@@ -1,6 +1,6 @@
 use Rattle.std.proofs.Common.{◌≤◌, ◌∙◌, sym, ap, arith, string_bytes}
 use Rattle.sql_tree.specs.NodePieces.{digit_end, pieces_for_codes}
-use Rattle.sql_tree.specs.PiecesView.{piece_at}
+use Rattle.sql_tree.specs.private.PiecesView.{piece_at}
 use Rattle.sql_tree.specs.TableDigits.{arity_of_table}
 use Rattle.sql_tree.specs.declared.dialect.Dialect.{Dialect}
 use Rattle.sql_tree.proofs.CodeTexts.{code_end}

@@ -1,7 +1,7 @@
 use Rattle.std.proofs.Common.{◌≡◌, ◌∙◌, ◌++◌, sym, ap, string_bytes}
 use Rattle.std.specs.Prelude.{codes}
 use Rattle.sql_tree.specs.NodePieces.{digit_start, pieces_for_codes, place_cast}
-use Rattle.sql_tree.specs.PiecesView.{piece_at}
+use Rattle.sql_tree.specs.private.PiecesView.{piece_at}
 use Rattle.sql_tree.specs.TableDigits.{arity_of_table}
 use Rattle.sql_tree.specs.declared.dialect.Dialect.{Dialect}
 use Rattle.sql_tree.proofs.CodeTexts.{code_start, digits_joined}

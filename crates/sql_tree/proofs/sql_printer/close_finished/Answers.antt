@@ -1,6 +1,6 @@
 use Rattle.std.proofs.Common.{◌<◌, ◌≤◌, ◌+◌, [], ◌∷◌, List, length, reverse, refl, sym, ap, subst, append-nil, arith, inr, string_bytes}
 use Rattle.sql_tree.specs.NodePieces.{node_pieces}
-use Rattle.sql_tree.specs.PiecesView.{piece_at}
+use Rattle.sql_tree.specs.private.PiecesView.{piece_at}
 use Rattle.sql_tree.specs.TableModel.{table_in}
 use Rattle.sql_tree.specs.declared.printer_frames.Frame.{Frame}
 use Rattle.sql_tree.specs.private.SqlPrinter.{Adds, Completed, Expecting, GoesOn}

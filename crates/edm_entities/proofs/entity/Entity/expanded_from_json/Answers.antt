@@ -3,7 +3,8 @@ use Rattle.serde_json.specs.View.{view}
 use Rattle.csdl_schema.specs.ExpansionView.{StepModel}
 use Rattle.csdl_schema.specs.SchemaModel.{properties_at, type_name_at}
 use Rattle.edm_entities.specs.Fits.{Fits}
-use Rattle.edm_entities.specs.Row.{Row, expanded_by, row_of, value_of}
+use Rattle.edm_entities.specs.Row.{Row, expanded_by, value_of}
+use Rattle.edm_entities.specs.private.Walk.{row_of}
 use Rattle.edm_entities.specs.private.Walk.{FitSlots}
 use Rattle.edm_entities.proofs.FitLemmas.RowFaultRefuses.{fault_refuses}
 use Rattle.edm_entities.proofs.SlotLemmas.ReadEntities.{entity_fits, is_entity}

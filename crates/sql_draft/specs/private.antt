@@ -1,2 +1,3 @@
 -- Definitions that private clauses alone cite.
-pub mod Written
+pub mod Paths
+pub mod Spelled
