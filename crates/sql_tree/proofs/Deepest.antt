@@ -8,6 +8,7 @@ use Rattle.sql_tree.specs.TableModel.{TableModel}
 use Rattle.sql_tree.specs.Term.{Term, Terms, term, no_terms, more_terms, nodes_of, nodes_of_all}
 use Rattle.sql_tree.specs.TreeText.{AreWhole, IsWhole, count_of}
 use Rattle.sql_tree.specs.declared.dialect.Dialect.{Dialect}
+use Rattle.edm_values.specs.declared.primitive.PrimitiveType.{PrimitiveType}
 use Rattle.sql_tree.specs.declared.sql_node.FieldType.{FieldType}
 use Rattle.sql_tree.specs.declared.sql_node.SqlFunction.{SqlFunction}
 use Rattle.sql_tree.specs.declared.sql_node.SqlNode.{SqlNode}
@@ -37,11 +38,12 @@ empty_none all none depth below is = let both : [] ≡ depth ∷ below = sym (ap
 
 -- ---- the symbols of a node itself
 
-field_fits : (type : FieldType) → own_of_field type ≤ 36
-field_fits (FieldType.Prim prim) = omega arith
+field_fits : (type : FieldType) → own_of_field type ≤ 37
+field_fits (FieldType.Prim PrimitiveType.Guid) = omega arith
+field_fits (FieldType.Prim _) = omega arith
 field_fits (FieldType.Enum id) = omega arith
 
-function_fits : (function : SqlFunction) → own_of_function function ≤ 36
+function_fits : (function : SqlFunction) → own_of_function function ≤ 37
 function_fits SqlFunction.Instant = omega arith
 function_fits SqlFunction.OffsetMinutes = omega arith
 function_fits SqlFunction.Second = omega arith
@@ -52,7 +54,7 @@ function_fits SqlFunction.PartFrom = omega arith
 function_fits SqlFunction.Trim = omega arith
 function_fits _ = omega arith
 
-own_fits : (node : SqlNode) → own_symbols node ≤ 36
+own_fits : (node : SqlNode) → own_symbols node ≤ 37
 own_fits (SqlNode.Field path type) = field_fits type
 own_fits (SqlNode.Exists path level) = omega arith
 own_fits (SqlNode.Least path level) = omega arith

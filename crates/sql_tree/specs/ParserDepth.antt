@@ -1,5 +1,8 @@
--- How many symbols an engine's parser keeps at a time of what has not ended yet, while it reads the text of a tree. They
--- are counted as SQLite's grammar has them.
+-- How many symbols SQLite's parser holds at most at a time while it reads the text of a tree: those of what has not
+-- ended yet. A token that is open is one; an operand or a list of arguments that has ended is one, whatever is in it.
+-- So `(` is one symbol, an operand with the sign after it two, `f(` three with an empty DISTINCT, arguments with the
+-- comma after them two, and `(SELECT` five with what may stand before its first column. They are counted by the grammar
+-- of SQLite 3.40, and measured.
 use Rattle.std.specs.Prelude.{ℕ, zero, suc, ◌+◌, ◌-◌, ◌*◌, max, min}
 use Rattle.edm_values.specs.declared.primitive.PrimitiveType.{PrimitiveType}
 use Rattle.sql_tree.specs.Term.{Term, Terms, term, no_terms, more_terms}
@@ -10,26 +13,27 @@ use Rattle.sql_tree.specs.declared.sql_node.SqlNode.{SqlNode}
 -- ---- of a node itself, apart from its children
 
 abbrev pub own_of_function : SqlFunction → ℕ
-own_of_function SqlFunction.Instant = 31
-own_of_function SqlFunction.OffsetMinutes = 20
-own_of_function SqlFunction.Second = 17
+own_of_function SqlFunction.Instant = 32
+own_of_function SqlFunction.OffsetMinutes = 21
+own_of_function SqlFunction.Second = 18
 own_of_function SqlFunction.StartsWith = 18
-own_of_function SqlFunction.EndsWith = 18
+own_of_function SqlFunction.EndsWith = 19
 own_of_function SqlFunction.RestFrom = 14
 own_of_function SqlFunction.PartFrom = 14
 own_of_function SqlFunction.Trim = 14
 own_of_function function = 8
 
 abbrev pub own_of_field : FieldType → ℕ
+own_of_field (FieldType.Prim PrimitiveType.Guid) = 9
 own_of_field (FieldType.Prim prim) = 8
-own_of_field (FieldType.Enum id) = 36
+own_of_field (FieldType.Enum id) = 37
 
 abbrev pub own_symbols : SqlNode → ℕ
 own_symbols (SqlNode.Field path type) = own_of_field type
-own_symbols (SqlNode.Exists path level) = 16
+own_symbols (SqlNode.Exists path level) = 17
 own_symbols (SqlNode.Least path level) = 16
-own_symbols (SqlNode.Count path) = 8
-own_symbols (SqlNode.IsMissing path) = 6
+own_symbols (SqlNode.Count path) = 9
+own_symbols (SqlNode.IsMissing path) = 7
 own_symbols (SqlNode.Function function) = own_of_function function
 own_symbols node = 3
 

@@ -66,10 +66,10 @@ fn own_symbols(node: SqlNode) -> usize
 {
     match node {
         SqlNode::Field { value_type, .. } => own_of_field(value_type),
-        SqlNode::Exists { .. } => 16,
+        SqlNode::Exists { .. } => 17,
         SqlNode::Least { .. } => 16,
-        SqlNode::Count { .. } => 8,
-        SqlNode::IsMissing { .. } => 6,
+        SqlNode::Count { .. } => 9,
+        SqlNode::IsMissing { .. } => 7,
         SqlNode::Function { function } => own_of_function(function),
         _ => 3,
     }
@@ -79,8 +79,9 @@ fn own_of_field(value_type: FieldType) -> usize
     ensures { result ≡ own_of_field value_type }
 {
     match value_type {
+        FieldType::Prim(Prim::Guid) => 9,
         FieldType::Prim(_) => 8,
-        FieldType::Enum(_) => 36,
+        FieldType::Enum(_) => 37,
     }
 }
 
@@ -88,11 +89,11 @@ fn own_of_function(function: SqlFunction) -> usize
     ensures { result ≡ own_of_function function }
 {
     match function {
-        SqlFunction::Instant => 31,
-        SqlFunction::OffsetMinutes => 20,
-        SqlFunction::Second => 17,
+        SqlFunction::Instant => 32,
+        SqlFunction::OffsetMinutes => 21,
+        SqlFunction::Second => 18,
         SqlFunction::StartsWith => 18,
-        SqlFunction::EndsWith => 18,
+        SqlFunction::EndsWith => 19,
         SqlFunction::RestFrom => 14,
         SqlFunction::PartFrom => 14,
         SqlFunction::Trim => 14,
