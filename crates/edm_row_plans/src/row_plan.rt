@@ -1,4 +1,4 @@
-ghost use Rattle.std.specs.Prelude.{◌≡◌, ◌⊎◌, false, IsTrue};
+ghost use Rattle.std.specs.Prelude.{◌≡◌, ◌⊎◌, [], false, IsTrue};
 ghost use Rattle.csdl_schema.specs.ExpansionView.{paths_in};
 ghost use Rattle.csdl_schema.specs.PathSet.{PropertyPath};
 ghost use Rattle.csdl_schema.specs.SchemaModel.{HoldsType};
@@ -20,8 +20,8 @@ pub struct RowPlan {
 
 impl RowPlan {
     /// Creates the plan of an entity type, with that expanded. If an allocation fails it has fewer of the types that a
-    /// row may hold, or nothing is expanded, and rows are read through JSON values.
-    /// Its clauses say nothing of a plan that is not whole.
+    /// row may hold, or nothing is expanded, and rows are read through JSON values. Where something is to be expanded,
+    /// its clauses say nothing of a plan that is not whole.
     pub fn new(alloc: Global, schema: &Schema, type_id: TypeId, expansion: &Expansion) -> RowPlan
         requires { HoldsType schema.now type_id }
         ensures schema { IsPlanOf schema.now result }
@@ -29,6 +29,7 @@ impl RowPlan {
         ensures expansion { (result.expansion ≡ expansion.now)
             ⊎ ((path : PropertyPath) → paths_in result.expansion path ≡ false) }
         ensures whole { IsTrue result.is_whole → result.expansion ≡ expansion.now }
+        ensures unexpanded { expansion.now ≡ [] → IsTrue result.is_whole }
     {
         match expansion.copy(alloc) {
             Ok(copy) => RowPlan::with(alloc, schema, type_id, copy, true),

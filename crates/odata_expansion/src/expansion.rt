@@ -1,4 +1,4 @@
-ghost use Rattle.std.specs.Prelude.{◌≡◌, ◌==◌, ◌≤◌, ◌↔◌, ◌++◌, ◌∷◌, [], ℕ, false, length, map, IfOk, IsTrue, OnErr, OnOk};
+ghost use Rattle.std.specs.Prelude.{◌≡◌, ◌==◌, ◌≤◌, ◌↔◌, ◌++◌, ◌∷◌, [], ℕ, false, length, map, IfOk, IsOk, IsTrue, OnErr, OnOk};
 ghost use Rattle.odata_expansion.specs.PathSet.{PropertyPath, Covers, with_path};
 ghost use Rattle.odata_expansion.specs.ExpansionView.{is_needed_at, next_node, paths_in, IsReached, KeepsPaths, LeadsTo};
 ghost use Rattle.odata_expansion.specs.private.StepView.{marked};
@@ -81,9 +81,10 @@ impl Expansion {
         Ok(())
     }
 
-    /// Copies the set.
+    /// Copies the set. The set without steps is copied in any memory.
     pub fn copy(&self, alloc: Global) -> Result<Expansion, AllocError>
-        ensures { IfOk result (λ copy. copy ≡ self.now) }
+        ensures same { IfOk result (λ copy. copy ≡ self.now) }
+        ensures succeeds { self.now ≡ [] → IsOk result }
     {
         let steps = copy_steps(alloc, self.steps.as_slice())?;
         Ok(Expansion { alloc, steps })

@@ -1,6 +1,6 @@
 //! Steps between the nodes of an expansion, one after another. Node 0 is the start, and the step at an index leads to
 //! the node with the next number.
-ghost use Rattle.std.specs.Prelude.{◌≡◌, ◌≤◌, ◌↔◌, [], true, false, length, map, nat_eq, IfOk, IsTrue};
+ghost use Rattle.std.specs.Prelude.{◌≡◌, ◌≤◌, ◌↔◌, [], true, false, length, map, nat_eq, IfOk, IsOk, IsTrue};
 ghost use Rattle.std.specs.Cmp.Lexicographic.{pointwise};
 ghost use Rattle.odata_expansion.specs.PathSet.{PropertyPath, Covers};
 ghost use Rattle.odata_expansion.specs.ExpansionView.{goes_on, is_needed_at, next_node, paths_in};
@@ -133,7 +133,8 @@ fn copy_step(alloc: Global, step: &Step) -> Result<Step, AllocError>
 }
 
 pub(crate) fn copy_steps(alloc: Global, steps: &[Step]) -> Result<Vec<Step>, AllocError>
-    ensures { IfOk result (λ copies. map step_model copies.items ≡ map step_model steps.now) }
+    ensures same { IfOk result (λ copies. map step_model copies.items ≡ map step_model steps.now) }
+    ensures succeeds { steps.now ≡ [] → IsOk result }
 {
     let mut copies = Vec::with_capacity(alloc, steps.len())?;
     for step in steps {

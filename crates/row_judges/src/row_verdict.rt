@@ -1,4 +1,4 @@
-ghost use Rattle.std.specs.Prelude.{◌≡◌, ◌≢◌, ◌⊎◌, ℕ, slice_get, false, IfSome, IsTrue};
+ghost use Rattle.std.specs.Prelude.{◌≡◌, ◌≢◌, ◌⊎◌, ℕ, [], slice_get, false, IfSome, IsTrue};
 ghost use Rattle.csdl_schema.specs.ExpansionView.{paths_in};
 ghost use Rattle.csdl_schema.specs.PathSet.{PropertyPath};
 ghost use Rattle.edm_row_plans.specs.Plans.{IsPlanOf};
@@ -23,6 +23,7 @@ pub(crate) fn plan_of(alloc: Global, checked: &Checked<'_>) -> RowPlan
     ensures expansion { (result.expansion ≡ checked.now.expansion)
         ⊎ ((path : PropertyPath) → paths_in result.expansion path ≡ false) }
     ensures whole { IsTrue result.is_whole → result.expansion ≡ checked.now.expansion }
+    ensures unexpanded { checked.now.expansion ≡ [] → IsTrue result.is_whole }
 {
     RowPlan::new(
         alloc,
@@ -58,7 +59,8 @@ pub(crate) fn names_whole_row(checked: &Checked<'_>) -> bool
 }
 
 /// Returns the layout by which the filter's rows are read. It has what the filter needs of navigation, and borrows or
-/// shares the filter's schema. Its clauses say nothing of a layout that is not whole.
+/// shares the filter's schema. Where the filter needs something expanded, its clauses say nothing of a layout that is
+/// not whole.
 pub fn row_layout_of<'s>(
     alloc: Global,
     checked: &Checked<'_>,
@@ -68,6 +70,7 @@ pub fn row_layout_of<'s>(
     ensures layout { IsLayoutOfFilter checked.now result }
     ensures expansion { (result.expansion ≡ checked.now.expansion)
         ⊎ ((path : PropertyPath) → paths_in result.expansion path ≡ false) }
+    ensures unexpanded { checked.now.expansion ≡ [] → IsTrue result.is_whole }
 {
     RowLayout::new(alloc, schema, plan_of(alloc, checked))
 }

@@ -1,4 +1,4 @@
-use Rattle.std.proofs.Common.{◌≡◌, ◌⊎◌, false, List, sym, ◌∙◌, subst}
+use Rattle.std.proofs.Common.{◌≡◌, ◌⊎◌, false, List, sym, ◌∙◌, subst, IsTrue}
 use Rattle.csdl_schema.specs.ExpansionView.{StepModel, paths_in}
 use Rattle.csdl_schema.specs.PathSet.{PropertyPath}
 use Rattle.edm_row_plans.specs.Plans.{IsPlanOf}
@@ -19,3 +19,6 @@ returns-clause-layout c =
 pub returns-clause-expansion : goal.returns-clause-expansion
 returns-clause-expansion c =
     subst (λ (steps : List StepModel). (steps ≡ c.args.checked.now.expansion) ⊎ ((path : PropertyPath) → paths_in steps path ≡ false)) (sym c.new.ensures.expansion) c.plan_of.ensures.expansion
+
+pub returns-clause-unexpanded : goal.returns-clause-unexpanded
+returns-clause-unexpanded c none = subst IsTrue (sym c.new.ensures.whole) (c.plan_of.ensures.unexpanded none)

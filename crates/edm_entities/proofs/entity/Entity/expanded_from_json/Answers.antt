@@ -16,7 +16,7 @@ of_row-requires c =
     let schema = c.args.schema.now in
     let json = view c.args.row.now in
     is_entity schema c.args.type_id c.in-Ok-copy.copy json c.in-Ok.values c.requires c.in-Ok.ensures.distinct c.in-Ok.ensures.object
-    (subst (λ (steps : List StepModel). FitSlots (expanded_by schema steps) json (properties_at schema c.args.type_id) c.in-Ok.values.items) (sym c.in-Ok-copy.ensures) c.in-Ok.ensures.fits)
+    (subst (λ (steps : List StepModel). FitSlots (expanded_by schema steps) json (properties_at schema c.args.type_id) c.in-Ok.values.items) (sym c.in-Ok-copy.ensures.same) c.in-Ok.ensures.fits)
 
 pub returns-in-Ok-copy-clause-fits : goal.returns-in-Ok-copy-clause-fits
 returns-in-Ok-copy-clause-fits c =
@@ -24,9 +24,9 @@ returns-in-Ok-copy-clause-fits c =
     let json = view c.args.row.now in
     let name = type_name_at schema c.args.type_id in
     subst (λ (e : Row). Fits (expanded_by schema c.args.expansion.now) name json (value_of e)) (sym c.of_row.ensures)
-    (subst (λ (steps : List StepModel). Fits (expanded_by schema steps) name json (value_of (row_of schema c.args.type_id c.in-Ok-copy.copy c.in-Ok.values))) c.in-Ok-copy.ensures
+    (subst (λ (steps : List StepModel). Fits (expanded_by schema steps) name json (value_of (row_of schema c.args.type_id c.in-Ok-copy.copy c.in-Ok.values))) c.in-Ok-copy.ensures.same
     (entity_fits schema c.args.type_id c.in-Ok-copy.copy json c.in-Ok.values c.in-Ok.ensures.distinct c.in-Ok.ensures.object
-    (subst (λ (steps : List StepModel). FitSlots (expanded_by schema steps) json (properties_at schema c.args.type_id) c.in-Ok.values.items) (sym c.in-Ok-copy.ensures) c.in-Ok.ensures.fits)))
+    (subst (λ (steps : List StepModel). FitSlots (expanded_by schema steps) json (properties_at schema c.args.type_id) c.in-Ok.values.items) (sym c.in-Ok-copy.ensures.same) c.in-Ok.ensures.fits)))
 
 pub returns-in-Err-clause-none_fits : goal.returns-in-Err-clause-none_fits
 returns-in-Err-clause-none_fits c some =
