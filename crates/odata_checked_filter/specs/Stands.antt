@@ -30,7 +30,7 @@ pub record IsValueOf (slots : Slots) (kind : LiteralKind) (spelling : List ℕ) 
 
 -- the kind of a literal's node
 abbrev pub IsLiteralNode : LiteralKind → NodeKind → Type 0
-IsLiteralNode kind (NodeKind.Literal k place) = k ≡ kind
+IsLiteralNode kind (NodeKind.Literal k index) = k ≡ kind
 IsLiteralNode kind _ = ⊥
 
 -- the kind of a name's node: a variable by its level, or else a property by its slot
@@ -71,7 +71,7 @@ IsKindOf slots root scope (lambda quantifier base variable body) k = k ≡ NodeK
 
 -- a literal's node has the index of a value of which this holds
 abbrev pub HasValue : List Value → (Value → Type 0) → NodeKind → Type 0
-HasValue values IsIt (NodeKind.Literal k place) = IsSomeAnd (slice_get values place) IsIt
+HasValue values IsIt (NodeKind.Literal k index) = IsSomeAnd (slice_get values index) IsIt
 HasValue values IsIt _ = ⊥
 
 -- a literal's node has what the literal stands for by itself; no other node has a value
@@ -89,18 +89,19 @@ text_of_shape _ = []
 
 -- the i-th node is the tree's top node, with its text, and stops at j; this holds of its kind beside that
 pub record IsTop
-    (schema : SchemaModel) (n : ℕ) (scope : Scope) (list : FlatTree) (i j start stop : ℕ) (shape : Shape)
+    (schema : SchemaModel) (filtered : ℕ) (scope : Scope) (list : FlatTree) (i j start stop : ℕ) (shape : Shape)
     (Valued : NodeKind → Type 0) : Type 0 where
   pub found : CheckedNode
   pub stands_at : slice_get list.nodes i ≡ Some found
   pub text_at : slice_get list.texts i ≡ Some (text_of_shape shape)
-  pub kind : IsKindOf (slots_of schema) (type_name_at schema n) scope shape found.kind
+  pub kind : IsKindOf (slots_of schema) (type_name_at schema filtered) scope shape found.kind
   pub valued : Valued found.kind
   pub starts : found.span.start ≡ start
   pub stops : found.span.stop ≡ stop
   pub last : found.stop ≡ j
   pub typed :
-      Typed (slots_of schema) (type_name_at schema n) scope (node start stop shape) (expr_type schema found.edm_type)
+      Typed (slots_of schema) (type_name_at schema filtered) scope (node start stop shape)
+      (expr_type schema found.edm_type)
 
 -- a node, and what follows it for its children
 pub record HasTop (Top Children : Type 0) : Type 0 where
@@ -128,77 +129,80 @@ InLine (Part ∷ parts) i j = SideBySide (λ middle. Part i middle) (λ middle. 
 -- the nodes from the i-th up to the j-th are one, of a String literal that is read as a number of an enumeration and
 -- has this number as its value
 abbrev pub NumberStands : SchemaModel → ℕ → Scope → FlatTree → ℤ → ℕ → ℕ → Tree → Type 0
-NumberStands schema n scope list number i j (node start stop (literal LiteralKind.Str spelling)) =
-    HasTop (IsTop schema n scope list i j start stop (literal LiteralKind.Str spelling)
+NumberStands schema filtered scope list number i j (node start stop (literal LiteralKind.Str spelling)) =
+    HasTop (IsTop schema filtered scope list i j start stop (literal LiteralKind.Str spelling)
     (HasValue list.values (λ value. value ≡ Value.Enum number))) (i + 1 ≡ j)
-NumberStands schema n scope list number i j _ = ⊥
+NumberStands schema filtered scope list number i j _ = ⊥
 
 -- the other operand is of one of these types: an enumeration literal without its type, where the tree is one then; else
 -- what stands for the tree by itself (OData URL Conventions 4.01, section 5.1.1.1)
 abbrev pub ResolvedStands :
     SchemaModel → ℕ → Scope → FlatTree → (ExprType → Type 0) → Tree → (ℕ → ℕ → Type 0) → ℕ → ℕ → Type 0
-ResolvedStands schema n scope list OtherSide tree Alone i j =
+ResolvedStands schema filtered scope list OtherSide tree Alone i j =
     ((number : ℤ) × ReadsNumber (slots_of schema) OtherSide tree number
-    × NumberStands schema n scope list number i j tree)
+    × NumberStands schema filtered scope list number i j tree)
     ⊎ (ReadsNone (slots_of schema) OtherSide tree × Alone i j)
 
 abbrev mutual
   -- the nodes from the i-th up to the j-th stand for the tree, where the filtered type is the schema's n-th and these
   -- variables are in scope
   pub Stands : SchemaModel → ℕ → Scope → FlatTree → ℕ → ℕ → Tree → Type 0
-  Stands schema n scope list i j (node start stop shape) =
-      HasTop (IsTop schema n scope list i j start stop shape (HasOwnValue list.values (slots_of schema) shape))
-      (InLine (child_parts schema n scope list shape) (i + 1) j)
+  Stands schema filtered scope list i j (node start stop shape) =
+      HasTop (IsTop schema filtered scope list i j start stop shape (HasOwnValue list.values (slots_of schema) shape))
+      (InLine (child_parts schema filtered scope list shape) (i + 1) j)
 
   -- what stands for each child of the shape
   pub child_parts : SchemaModel → ℕ → Scope → FlatTree → Shape → List (ℕ → ℕ → Type 0)
-  child_parts schema n scope list (literal kind spelling) = []
-  child_parts schema n scope list it = []
-  child_parts schema n scope list (name asked) = []
-  child_parts schema n scope list (member base asked) = (λ i j. Stands schema n scope list i j base) ∷ []
-  child_parts schema n scope list (count base) = (λ i j. Stands schema n scope list i j base) ∷ []
-  child_parts schema n scope list (negation operand) = (λ i j. Stands schema n scope list i j operand) ∷ []
-  child_parts schema n scope list (logical_not operand) = (λ i j. Stands schema n scope list i j operand) ∷ []
-  child_parts schema n scope list (binary operator left right) =
-      ResolvedStands schema n scope list
-      (OfEquality operator (Typed (slots_of schema) (type_name_at schema n) scope right))
-      left (λ i j. Stands schema n scope list i j left)
-      ∷ ResolvedStands schema n scope list
-      (OfEquality operator (Typed (slots_of schema) (type_name_at schema n) scope left)) right
-      (λ i j. Stands schema n scope list i j right)
+  child_parts schema filtered scope list (literal kind spelling) = []
+  child_parts schema filtered scope list it = []
+  child_parts schema filtered scope list (name asked) = []
+  child_parts schema filtered scope list (member base asked) = (λ i j. Stands schema filtered scope list i j base) ∷ []
+  child_parts schema filtered scope list (count base) = (λ i j. Stands schema filtered scope list i j base) ∷ []
+  child_parts schema filtered scope list (negation operand) =
+      (λ i j. Stands schema filtered scope list i j operand) ∷ []
+  child_parts schema filtered scope list (logical_not operand) =
+      (λ i j. Stands schema filtered scope list i j operand) ∷ []
+  child_parts schema filtered scope list (binary operator left right) =
+      ResolvedStands schema filtered scope list
+      (OfEquality operator (Typed (slots_of schema) (type_name_at schema filtered) scope right))
+      left (λ i j. Stands schema filtered scope list i j left)
+      ∷ ResolvedStands schema filtered scope list
+      (OfEquality operator (Typed (slots_of schema) (type_name_at schema filtered) scope left)) right
+      (λ i j. Stands schema filtered scope list i j right)
       ∷ []
-  child_parts schema n scope list (has left right) =
-      (λ i j. Stands schema n scope list i j left)
-      ∷ ResolvedStands schema n scope list (Typed (slots_of schema) (type_name_at schema n) scope left) right
-      (λ i j. Stands schema n scope list i j right)
+  child_parts schema filtered scope list (has left right) =
+      (λ i j. Stands schema filtered scope list i j left)
+      ∷ ResolvedStands schema filtered scope list (Typed (slots_of schema) (type_name_at schema filtered) scope left)
+      right
+      (λ i j. Stands schema filtered scope list i j right)
       ∷ []
-  child_parts schema n scope list (in_list left items) =
-      (λ i j. Stands schema n scope list i j left)
-      ∷ item_parts schema n scope list (Typed (slots_of schema) (type_name_at schema n) scope left) items
-  child_parts schema n scope list (in_path left path) =
-      (λ i j. Stands schema n scope list i j left) ∷ (λ i j. Stands schema n scope list i j path) ∷ []
-  child_parts schema n scope list (call asked arguments) = tree_parts schema n scope list arguments
-  child_parts schema n scope list (any_item base) = (λ i j. Stands schema n scope list i j base) ∷ []
-  child_parts schema n scope list (lambda quantifier base variable body) =
-      (λ i j. Stands schema n scope list i j base)
-      ∷ (λ i j. InBody scope variable (Typed (slots_of schema) (type_name_at schema n) scope base)
-      (λ at. Stands schema n at list i j body))
+  child_parts schema filtered scope list (in_list left items) =
+      (λ i j. Stands schema filtered scope list i j left)
+      ∷ item_parts schema filtered scope list (Typed (slots_of schema) (type_name_at schema filtered) scope left) items
+  child_parts schema filtered scope list (in_path left path) =
+      (λ i j. Stands schema filtered scope list i j left) ∷ (λ i j. Stands schema filtered scope list i j path) ∷ []
+  child_parts schema filtered scope list (call asked arguments) = tree_parts schema filtered scope list arguments
+  child_parts schema filtered scope list (any_item base) = (λ i j. Stands schema filtered scope list i j base) ∷ []
+  child_parts schema filtered scope list (lambda quantifier base variable body) =
+      (λ i j. Stands schema filtered scope list i j base)
+      ∷ (λ i j. InBody scope variable (Typed (slots_of schema) (type_name_at schema filtered) scope base)
+      (λ at. Stands schema filtered at list i j body))
       ∷ []
 
   -- likewise for each of these trees
   pub tree_parts : SchemaModel → ℕ → Scope → FlatTree → Trees → List (ℕ → ℕ → Type 0)
-  tree_parts schema n scope list no_trees = []
-  tree_parts schema n scope list (more_trees tree trees) =
-      (λ i j. Stands schema n scope list i j tree) ∷ tree_parts schema n scope list trees
+  tree_parts schema filtered scope list no_trees = []
+  tree_parts schema filtered scope list (more_trees tree trees) =
+      (λ i j. Stands schema filtered scope list i j tree) ∷ tree_parts schema filtered scope list trees
 
   -- likewise for each item of a list, whose left operand is of one of these types
   pub item_parts :
       SchemaModel → ℕ → Scope → FlatTree → (ExprType → Type 0) → Trees → List (ℕ → ℕ → Type 0)
-  item_parts schema n scope list OtherSide no_trees = []
-  item_parts schema n scope list OtherSide (more_trees tree trees) =
-      ResolvedStands schema n scope list OtherSide tree (λ i j. Stands schema n scope list i j tree)
-      ∷ item_parts schema n scope list OtherSide trees
+  item_parts schema filtered scope list OtherSide no_trees = []
+  item_parts schema filtered scope list OtherSide (more_trees tree trees) =
+      ResolvedStands schema filtered scope list OtherSide tree (λ i j. Stands schema filtered scope list i j tree)
+      ∷ item_parts schema filtered scope list OtherSide trees
 
 -- the nodes from the i-th up to the j-th stand for the children of the shape, one after another
 abbrev pub ChildrenStand : SchemaModel → ℕ → Scope → FlatTree → ℕ → ℕ → Shape → Type 0
-ChildrenStand schema n scope list i j shape = InLine (child_parts schema n scope list shape) i j
+ChildrenStand schema filtered scope list i j shape = InLine (child_parts schema filtered scope list shape) i j
