@@ -10,7 +10,7 @@ from built_program import write
 SLACK = 2 << 20  # bytes that no row accounts for: pages, and what the interpreter takes meanwhile
 WIDE = 1_000
 ROW = 300_000  # bytes of a row
-IN_PLACE, BY_TREE = 36, 168  # how many times its bytes a row takes
+MOST = 36  # how many times its bytes a row takes
 
 
 def schema(name):
@@ -29,21 +29,21 @@ def filled(begin, each, end):
     return begin + ",".join([each] * ((ROW - len(begin) - len(end)) // (len(each) + 1))) + end
 
 
-# a name, the filter, how the row is read, and the row; of a wide type the filter asks one property or two
+# a name, the filter, and the row; of a wide type the filter asks one property or two
 ROWS = [
-    ("empty members", "c/any(v:v/s1 eq 'a')", IN_PLACE, filled('{"c":[', "{}", "]}")),
-    ("members with another property", "c/any(v:v/s1 eq 'a')", IN_PLACE, filled('{"c":[', '{"s2":""}', "]}")),
-    ("members with the last property", "c/any(v:v/s999 eq 'a')", IN_PLACE, filled('{"c":[', '{"s999":""}', "]}")),
-    ("two properties", "c/any(v:v/s1 eq v/s999)", IN_PLACE, filled('{"c":[', '{"s1":"","s999":""}', "]}")),
-    ("entities", "to/any(v:v/s1 eq 'a')", IN_PLACE, filled('{"to":[', "{}", "]}")),
-    ("records in records", "d/any(v:v/c/any(w:w/s1 eq 'a'))", IN_PLACE, filled('{"d":[', '{"c":[{}]}', "]}")),
-    ("one record in each", "d/any(v:v/one/s1 eq 'a')", IN_PLACE, filled('{"d":[', '{"c":[],"one":{}}', "]}")),
-    ("numbers", "n/any(v:v eq 1)", IN_PLACE, filled('{"n":[', "0", "]}")),
-    ("texts", "x/any(v:v eq 'a')", IN_PLACE, filled('{"x":[', '""', "]}")),
-    ("escaped texts", "x/any(v:v eq 'a')", IN_PLACE, filled('{"x":[', '"\\u0061"', "]}")),
-    ("what nobody asks", "n/any(v:v eq 1)", IN_PLACE, filled('{"n":[],"z":[', "[]", "]}")),
-    ("a fault at the end", "c/any(v:v/s1 eq 'a')", BY_TREE, filled('{"c":[', "{}", ",5]}")),
-    ("no JSON at the end", "c/any(v:v/s1 eq 'a')", BY_TREE, filled('{"c":[', "{}", "]")),
+    ("empty members", "c/any(v:v/s1 eq 'a')", filled('{"c":[', "{}", "]}")),
+    ("members with another property", "c/any(v:v/s1 eq 'a')", filled('{"c":[', '{"s2":""}', "]}")),
+    ("members with the last property", "c/any(v:v/s999 eq 'a')", filled('{"c":[', '{"s999":""}', "]}")),
+    ("two properties", "c/any(v:v/s1 eq v/s999)", filled('{"c":[', '{"s1":"","s999":""}', "]}")),
+    ("entities", "to/any(v:v/s1 eq 'a')", filled('{"to":[', "{}", "]}")),
+    ("records in records", "d/any(v:v/c/any(w:w/s1 eq 'a'))", filled('{"d":[', '{"c":[{}]}', "]}")),
+    ("one record in each", "d/any(v:v/one/s1 eq 'a')", filled('{"d":[', '{"c":[],"one":{}}', "]}")),
+    ("numbers", "n/any(v:v eq 1)", filled('{"n":[', "0", "]}")),
+    ("texts", "x/any(v:v eq 'a')", filled('{"x":[', '""', "]}")),
+    ("escaped texts", "x/any(v:v eq 'a')", filled('{"x":[', '"\\u0061"', "]}")),
+    ("what nobody asks", "n/any(v:v eq 1)", filled('{"n":[],"z":[', "[]", "]}")),
+    ("a fault at the end", "c/any(v:v/s1 eq 'a')", filled('{"c":[', "{}", ",5]}")),
+    ("no JSON at the end", "c/any(v:v/s1 eq 'a')", filled('{"c":[', "{}", "]")),
 ]
 # what a row takes, of a judge that has judged before and of a new one: the difference in the most bytes of memory
 MEASURED = """
@@ -75,12 +75,12 @@ print(figure("VmHWM:") - start, said)
 
 
 def attacks(room):
-    for name, text, most, row in ROWS:
+    for name, text, row in ROWS:
         owned = text.partition("/")[0]
         for before in ([], [f'{{"{owned}":[]}}'] * 2):
             asked = {"schema": schema(owned), "filter": text, "row": row, "before": before}
             words = [sys.executable, "-c", MEASURED, MODULE, write(f"{room}/row.json", json.dumps(asked))]
             done = subprocess.run(words, capture_output=True, text=True, timeout=120, env=os.environ, check=False)
             taken = int(done.stdout.split()[0]) if done.returncode == 0 else -1
-            is_well = 0 <= taken < most * len(row) + SLACK
+            is_well = 0 <= taken < MOST * len(row) + SLACK
             yield f"{name}, after {len(before)} rows", is_well, (taken / len(row), done.stdout, done.stderr)

@@ -1,2 +1,3 @@
 pub mod FitLemmas
 pub mod SlotLemmas
+mod TapeLemmas

@@ -10,6 +10,7 @@ pub mod BorrowedSlots
 pub mod ObjectMembers
 pub mod ReadEntities
 pub mod RowReported
+pub mod SlotNames
 pub mod SlotWalk
 pub mod SlotsByName
 pub mod ValueWalk

@@ -25,5 +25,6 @@ pub mod HoldsEachSlot
 pub mod Row
 pub mod RowFaults
 pub mod SlotValue
+pub mod TextFaults
 pub mod ValuesRead
 pub mod private

@@ -2,6 +2,7 @@ ghost use Rattle.std.specs.Prelude.{◌≡◌, false, Some, IfOk, IfErr, IfSome}
 ghost use Rattle.serde_json.specs.View.{view};
 
 use super::flaw::row_fault;
+use super::json_node::JsonNode;
 use super::json_walk::read_slots;
 use super::kept_row::KeptRow;
 use super::row_fault::RowFault;
@@ -93,7 +94,7 @@ impl<'s> Entity<'s> {
             schema,
             expansion,
         };
-        match read_slots(&context, type_id, Some(0), row) {
+        match read_slots(&context, type_id, Some(0), &JsonNode::Tree(row)) {
             Ok(values) => match expansion.copy(alloc) {
                 Ok(copy) => {
                     let kept = KeptRow::Own(copy, Value::Record(values));
@@ -122,7 +123,7 @@ impl<'s> Entity<'s> {
             schema,
             expansion,
         };
-        let Ok(values) = read_slots(&context, type_id, Some(0), row) else {
+        let Ok(values) = read_slots(&context, type_id, Some(0), &JsonNode::Tree(row)) else {
             return None;
         };
         Some(Value::Record(values))

@@ -1,8 +1,7 @@
-//! The walk over a JSON tree along the slots of a type. The first fault in the order of the slots ends it.
+//! The walk over a JSON value along the slots of a type. The first fault in the order of the slots ends it.
 ghost use Rattle.std.specs.Prelude.{◌≡◌, [], Bool, false, Some, IsSome, option_map, IfOk, IfErr};
 ghost use Rattle.serde_json.specs.Data.{array};
 ghost use Rattle.serde_json.specs.Find.{as_object};
-ghost use Rattle.serde_json.specs.View.{view, items_view};
 ghost use Rattle.csdl_schema.specs.ExprType.{single, collection, structured};
 ghost use Rattle.csdl_schema.specs.PropertyView.{property_type, target_of};
 ghost use Rattle.csdl_schema.specs.SchemaModel.{HasDistinctNames, properties_at, type_name_at};
@@ -14,13 +13,13 @@ ghost use Rattle.edm_entities.specs.private.Walk.{IsPropertyFault};
 ghost use Rattle.edm_entities.specs.private.Faults.{IsFaultOf};
 ghost use Rattle.edm_row_plans.specs.Expanded.{node_behind, target_if};
 ghost use Rattle.edm_entities.specs.private.Walk.{slots_in};
+ghost use Rattle.edm_entities.specs.private.JsonNodes.{data_of, items_left};
 ghost use Rattle.edm_entities.specs.private.Walk.{FitSlots, FitList, HoldsInSlot, HoldInItems, wanted_single};
 
 use super::flaw::{ReadFault, ReadFlaw, fault_below, fault_here, fault_in_item};
+use super::json_node::{JsonNode, NodeItems};
 use super::leaf::{absent_value, leaf_read, null_value, read_member, read_primitive, record_of};
-use super::member_walk::members_of;
 use super::property_cursor::first_piece;
-use super::scalar::scalar_of;
 use csdl_schema::{Property, TypeId};
 use edm_row_plans::{
     WalkContext, Wanted, expanded_target, may_hold_null, navigates, node_behind, wanted_with,
@@ -33,16 +32,19 @@ pub(crate) fn read_slots(
     context: &WalkContext<'_>,
     type_id: TypeId,
     node: Option<usize>,
-    json: &serde_json::Value,
+    json: &JsonNode<'_, '_>,
 ) -> Result<Vec<Value>, ReadFault>
-    ensures object { IfOk result (λ _. IsSome (as_object (view json.now))) }
+    ensures object { IfOk result (λ _. IsSome (as_object (data_of json.now))) }
     ensures distinct { IfOk result (λ _. HasDistinctNames (properties_at context.now.schema.now type_id)) }
-    ensures fits { IfOk result (λ values. FitSlots (slots_in context.now node) (view json.now)
+    ensures fits { IfOk result (λ values. FitSlots (slots_in context.now node) (data_of json.now)
         (properties_at context.now.schema.now type_id) values.items) }
     ensures fault { IfErr result (IsFaultOf (λ path flaw. IsValueFault (slots_in context.now node) false path
-        (single (structured (type_name_at context.now.schema.now type_id))) (view json.now) flaw)) }
+        (single (structured (type_name_at context.now.schema.now type_id))) (data_of json.now) flaw)) }
 {
-    let Some(mut members) = members_of(json) else {
+    let Ok(found) = json.members(context.alloc, context.schema, type_id) else {
+        return Err(fault_here(ReadFlaw::Memory));
+    };
+    let Some(mut members) = found else {
         return Err(fault_here(ReadFlaw::WrongKind));
     };
     let count = context.schema.slots(type_id);
@@ -53,7 +55,7 @@ pub(crate) fn read_slots(
     for slot in 0..count {
         let (name, property) = cursor.at(context.schema, type_id, slot);
         let inner = node_behind(context, node, name);
-        match read_property(context, property, inner, members.find(json, name)) {
+        match read_property(context, property, inner, members.find(slot, name)) {
             Ok(value) => {
                 if values.push(value).is_err() {
                     return Err(fault_here(ReadFlaw::Memory));
@@ -72,16 +74,16 @@ fn read_property(
     context: &WalkContext<'_>,
     property: &Property,
     node: Option<usize>,
-    found: Option<&serde_json::Value>,
+    found: Option<JsonNode<'_, '_>>,
 ) -> Result<Value, ReadFault>
     ensures fits { IfOk result (λ v. FitsProperty (slots_in context.now node) property.now.nullable
-        (property_type context.now.schema.now property.now) (option_map (λ json. view json.now) found.entry)
+        (property_type context.now.schema.now property.now) (option_map data_of found.entry)
         (field_of (slots_in context.now node).properties (property_type context.now.schema.now property.now)
         (val_of v))) }
     ensures holds { IfOk result (HoldsInSlot (slots_in context.now node)
         (property_type context.now.schema.now property.now)) }
     ensures fault { IfErr result (IsFaultOf (IsPropertyFault (slots_in context.now node) property.now.nullable
-        (property_type context.now.schema.now property.now) (option_map (λ json. view json.now) found.entry))) }
+        (property_type context.now.schema.now property.now) (option_map data_of found.entry))) }
 {
     let target = expanded_target(context, property, node);
     let Some(wanted) = wanted_with(property, target) else {
@@ -89,9 +91,9 @@ fn read_property(
     };
     match found {
         Some(json) => if property.many {
-            read_items(context, &wanted, node, may_hold_null(property), json)
+            read_items(context, &wanted, node, may_hold_null(property), &json)
         } else {
-            read_single(context, &wanted, node, property.nullable, json)
+            read_single(context, &wanted, node, property.nullable, &json)
         },
         None => if navigates(property) {
             Err(fault_here(ReadFlaw::NotExpanded))
@@ -108,16 +110,16 @@ fn read_single(
     wanted: &Wanted,
     node: Option<usize>,
     nullable: bool,
-    json: &serde_json::Value,
+    json: &JsonNode<'_, '_>,
 ) -> Result<Value, ReadFault>
-    ensures fits { (items : Bool) → IfOk result (λ v. FitsFound (Some (view json.now)) nullable
+    ensures fits { (items : Bool) → IfOk result (λ v. FitsFound (Some (data_of json.now)) nullable
         (val_of v (slots_in context.now node).properties (single (wanted_single context.now.schema.now wanted.now)))
         (λ found. FitsType (slots_in context.now node) items
         (single (wanted_single context.now.schema.now wanted.now)) found
         (val_of v (slots_in context.now node).properties (single (wanted_single context.now.schema.now wanted.now))))) }
     ensures holds { IfOk result
         (λ v. HoldsEachSlot v (slots_in context.now node) (single (wanted_single context.now.schema.now wanted.now))) }
-    ensures fault { (items : Bool) → IfErr result (IsFaultOf (λ path flaw. IsFoundFault (Some (view json.now)) nullable
+    ensures fault { (items : Bool) → IfErr result (IsFaultOf (λ path flaw. IsFoundFault (Some (data_of json.now)) nullable
         path flaw (λ found. IsValueFault (slots_in context.now node) items path
         (single (wanted_single context.now.schema.now wanted.now)) found flaw))) }
 {
@@ -133,19 +135,19 @@ fn read_value(
     context: &WalkContext<'_>,
     wanted: &Wanted,
     node: Option<usize>,
-    json: &serde_json::Value,
+    json: &JsonNode<'_, '_>,
 ) -> Result<Value, ReadFault>
     ensures fits { (nullable : Bool) → IfOk result (λ v. FitsType (slots_in context.now node) nullable
-        (single (wanted_single context.now.schema.now wanted.now)) (view json.now)
+        (single (wanted_single context.now.schema.now wanted.now)) (data_of json.now)
         (val_of v (slots_in context.now node).properties (single (wanted_single context.now.schema.now wanted.now)))) }
     ensures holds { IfOk result
         (λ v. HoldsEachSlot v (slots_in context.now node) (single (wanted_single context.now.schema.now wanted.now))) }
     ensures fault { (nullable : Bool) → IfErr result (IsFaultOf (λ path flaw. IsValueFault (slots_in context.now node)
-        nullable path (single (wanted_single context.now.schema.now wanted.now)) (view json.now) flaw)) }
+        nullable path (single (wanted_single context.now.schema.now wanted.now)) (data_of json.now) flaw)) }
 {
     match *wanted {
-        Wanted::Prim(prim) => leaf_read(read_primitive(context.alloc, prim, scalar_of(json))),
-        Wanted::Enum(id) => leaf_read(read_member(context.schema, id, scalar_of(json))),
+        Wanted::Prim(prim) => leaf_read(read_primitive(context.alloc, prim, json.scalar())),
+        Wanted::Enum(id) => leaf_read(read_member(context.schema, id, json.scalar())),
         Wanted::Complex(id) => {
             let values = read_slots(context, id, node, json)?;
             record_of(context.alloc, values)
@@ -160,9 +162,9 @@ fn read_items(
     wanted: &Wanted,
     node: Option<usize>,
     nullable: bool,
-    json: &serde_json::Value,
+    json: &JsonNode<'_, '_>,
 ) -> Result<Value, ReadFault>
-    ensures fits { IfOk result (λ v. FitsFound (Some (view json.now)) false
+    ensures fits { IfOk result (λ v. FitsFound (Some (data_of json.now)) false
         (val_of v (slots_in context.now node).properties (collection (wanted_single context.now.schema.now wanted.now)))
         (λ found. FitsType (slots_in context.now node) nullable
         (collection (wanted_single context.now.schema.now wanted.now)) found
@@ -171,17 +173,17 @@ fn read_items(
     ensures holds { IfOk result
         (λ v. HoldsEachSlot v (slots_in context.now node)
         (collection (wanted_single context.now.schema.now wanted.now))) }
-    ensures fault { IfErr result (IsFaultOf (λ path flaw. IsFoundFault (Some (view json.now)) false path flaw
+    ensures fault { IfErr result (IsFaultOf (λ path flaw. IsFoundFault (Some (data_of json.now)) false path flaw
         (λ found. IsValueFault (slots_in context.now node) nullable path
         (collection (wanted_single context.now.schema.now wanted.now)) found flaw))) }
 {
     if json.is_null() {
         return Err(fault_here(ReadFlaw::NullNotAllowed));
     }
-    let Some(items) = json.as_array() else {
+    let Some(items) = json.items() else {
         return Err(fault_here(ReadFlaw::WrongKind));
     };
-    let values = read_list(context, wanted, node, nullable, items.as_slice())?;
+    let values = read_list(context, wanted, node, nullable, items)?;
     Ok(Value::List(values))
 }
 
@@ -192,27 +194,28 @@ fn read_list(
     wanted: &Wanted,
     node: Option<usize>,
     nullable: bool,
-    items: &[serde_json::Value],
+    items: NodeItems<'_, '_>,
 ) -> Result<Vec<Value>, ReadFault>
     ensures fits { IfOk result (λ values. FitList (slots_in context.now node) nullable
-        (wanted_single context.now.schema.now wanted.now) (items_view items.now) values.items) }
+        (wanted_single context.now.schema.now wanted.now) (items_left items.entry) values.items) }
     ensures holds { IfOk result
         (λ values. HoldInItems (slots_in context.now node)
         (wanted_single context.now.schema.now wanted.now) values.items) }
     ensures fault { IfErr result (IsFaultOf (λ path flaw. IsValueFault (slots_in context.now node) nullable path
-        (collection (wanted_single context.now.schema.now wanted.now)) (array (items_view items.now)) flaw)) }
+        (collection (wanted_single context.now.schema.now wanted.now)) (array (items_left items.entry)) flaw)) }
 {
-    let Ok(mut values) = Vec::with_capacity(context.alloc, items.len()) else {
+    let mut left = items;
+    let Ok(mut values) = Vec::with_capacity(context.alloc, left.count()) else {
         return Err(fault_here(ReadFlaw::Memory));
     };
-    for index in 0..items.len() {
-        match read_single(context, wanted, node, nullable, &items[index]) {
+    'items: while let Some(item) = left.next() {
+        match read_single(context, wanted, node, nullable, &item) {
             Ok(value) => {
                 if values.push(value).is_err() {
                     return Err(fault_here(ReadFlaw::Memory));
                 }
             }
-            Err(fault) => return Err(fault_in_item(context.alloc, index, fault)),
+            Err(fault) => return Err(fault_in_item(context.alloc, values.len(), fault)),
         }
     }
     Ok(values)

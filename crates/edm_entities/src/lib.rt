@@ -12,6 +12,7 @@
 
 mod entity;
 mod flaw;
+mod json_node;
 mod json_walk;
 mod kept_row;
 mod laws;
@@ -20,6 +21,9 @@ mod member_walk;
 mod property_cursor;
 mod row_fault;
 mod scalar;
+mod tape_node;
+mod text_entity;
+mod text_fault;
 
 pub use entity::Entity;
 pub use laws::{
@@ -27,3 +31,4 @@ pub use laws::{
     spelled_values_lie_within, what_fits_has_its_type, what_has_a_fault_fits_nothing,
 };
 pub use row_fault::RowFault;
+pub use text_fault::TextFault;

@@ -62,9 +62,9 @@ impl<'j> MemberWalk<'j> {
 
     /// The value of the object's member of that name. It is quick where names are asked for in their order.
     pub(crate) fn find(&mut self, json: &'j Value, name: &str) -> Option<&'j Value>
-        requires { IsWalkOf (view json.now) self.old }
-        ensures walk { IsWalkOf (view json.now) self.new }
-        ensures found { option_map (λ value. view value.now) result ≡ get name.now (view json.now) }
+        ensures walk { IsWalkOf (view json.now) self.old → IsWalkOf (view json.now) self.new }
+        ensures found { IsWalkOf (view json.now) self.old
+            → option_map (λ value. view value.now) result ≡ get name.now (view json.now) }
     {
         if let Some(value) = self.take(name) {
             return Some(value);

@@ -6,7 +6,6 @@ pub mod Passing
 pub mod Plans
 pub mod Properties
 pub mod RowTypes
-pub mod SlotNames
 pub mod SlotTexts
 pub mod SlotsFilled
 pub mod SlotsRead

@@ -185,6 +185,11 @@ by_way P Broken put rejected none broken = broken
 by_way P (Put to) put rejected none broken = put to refl
 by_way P (Rejected to) put rejected none broken = rejected to refl
 
+-- a row that is not broken is whole
+pub whole_unless : (is_whole : Bool) (taken : Taken) → (is_whole ≡ false → taken ≡ Broken) → taken ≢ Broken → is_whole ≡ true
+whole_unless true taken broken other = refl
+whole_unless false taken broken other = absurd (other (broken refl))
+
 -- ---- the whole line
 
 -- a value that is the whole text, but for white space

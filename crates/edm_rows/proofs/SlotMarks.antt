@@ -4,7 +4,7 @@ use Rattle.std.proofs.lemmas.Bool.{true≢false}
 use Rattle.std.specs.List.{AllByRecursion}
 use Rattle.csdl_schema.specs.SchemaModel.{HasDistinctNames, PropertyModel, slot_named}
 use Rattle.edm_rows.proofs.Indexes.{other_kept}
-use Rattle.edm_rows.proofs.RowLemmas.SlotNames.{no_slot_is_named, slot_is_named}
+use Rattle.edm_entities.proofs.SlotLemmas.SlotNames.{no_slot_is_named, slot_is_named}
 use Rattle.edm_values.specs.declared.sieve.Sieve.{Sieve}
 use Rattle.edm_rows.proofs.KeptMembers.{same_number}
 use Rattle.edm_rows.specs.RowsOfType.{sieve_put, sifted}

@@ -54,7 +54,7 @@ impl LayoutReader {
     }
 
     /// Reads a line as a row. The line is copied once, so that bytes can be read past its end. If this returns `None`,
-    /// the line may still be a row: `Entity::expanded_from_json` says what is wrong with it, if anything is. The entity
+    /// the line may still be a row: `Entity::expanded_from_text` says what is wrong with it, if anything is. The entity
     /// is borrowed: the next row is read into the same memory. Its clauses say nothing of `None`.
     pub fn read<'r>(&'r mut self, layout: &'r RowLayout<'_>, line: &[u8]) -> Option<Entity<'r>>
         ensures of_type { IfSome result
@@ -64,6 +64,7 @@ impl LayoutReader {
         ensures row { IfSome result (IsRowOfLine line.now) }
     {
         if !fill_line(&mut self.cache, &mut self.room, layout, line, &mut self.row) {
+            self.row = Value::Null;
             return None;
         }
         Some(Entity::borrowed(

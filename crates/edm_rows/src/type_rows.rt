@@ -180,6 +180,7 @@ impl<'s> TypeRows<'s> {
             depth: DEPTH - 1,
         };
         self.is_ready = fill_row(&mut self.cache, &context, &mut self.row);
+        keep_if(self.is_ready, &mut self.row);
     }
 
     /// Reads the line of that length at the front of the bytes into the row. Its clauses say nothing of `Unread`.
@@ -284,6 +285,7 @@ impl<'s> TypeRows<'s> {
         let taken = take_row(&mut self.cache, &context, place, &mut self.row);
         keep_noted(&mut self.cache, &mut self.known, self.schema.schema());
         self.is_ready = is_whole_row(taken);
+        keep_if(self.is_ready, &mut self.row);
         taken
     }
 
@@ -373,6 +375,16 @@ fn is_whole_row(taken: Taken) -> bool
     match taken {
         Taken::Put(_) | Taken::Rejected(_) | Taken::Nothing => true,
         Taken::Broken => false,
+    }
+}
+
+/// Drops what was filled of a row that is none, since it is read in another way, which takes memory too.
+#[inline(always)]
+fn keep_if(is_row: bool, row: &mut Value)
+    ensures { IsTrue is_row → row.new ≡ row.old }
+{
+    if !is_row {
+        *row = Value::Null;
     }
 }
 

@@ -1,5 +1,6 @@
 pub mod BlankLines
 pub mod BoundedLines
+pub mod BoundedValues
 pub mod CostsAlone
 pub mod CostsBut
 pub mod ItemsInPlace

@@ -1,5 +1,5 @@
 -- Definitions that private clauses alone cite.
-pub mod BoundedJudge
+pub mod BadTexts
 pub mod BoundedLines
 pub mod RowsInPlace
 pub mod ValueAnswer

@@ -1,7 +1,8 @@
 ghost use Rattle.std.specs.Prelude.{◌≡◌};
 ghost use Rattle.row_judges.specs.RowAnswer.{is_memory};
+ghost use Rattle.row_judges.specs.private.BadTexts.{bad_text};
 
-use edm_entities::RowFault;
+use edm_entities::{RowFault, TextFault};
 use odata_eval::EvalFault;
 use thiserror::Error;
 
@@ -30,5 +31,15 @@ impl BadRow {
             BadRow::NoEntity(fault) => matches!(fault, RowFault::Memory),
             BadRow::NoValue(fault) => matches!(fault, EvalFault::Memory),
         }
+    }
+}
+
+/// The fault of a row whose text has that one.
+pub(crate) fn bad_text(fault: TextFault) -> BadRow
+    ensures { result ≡ bad_text fault }
+{
+    match fault {
+        TextFault::NotJson => BadRow::NotJson,
+        TextFault::NoEntity(fault) => BadRow::NoEntity(fault),
     }
 }

@@ -1,6 +1,5 @@
 //! Rows judged within a bound on what they cost.
 ghost use Rattle.std.specs.Prelude.{◌≡◌, ℕ, List, true, IfSome};
-ghost use Rattle.serde_json.specs.View.{view};
 ghost use Rattle.csdl_schema.specs.ExpansionView.{paths_in};
 ghost use Rattle.csdl_schema.specs.PathSet.{PropertyPath};
 ghost use Rattle.edm_rows.specs.RowReading.{IsLineBut};
@@ -12,16 +11,14 @@ ghost use Rattle.odata_eval.specs.VerdictView.{outcome_reported};
 ghost use Rattle.row_judges.specs.FilterRows.{KeepsNames};
 ghost use Rattle.row_judges.specs.RowAnswer.{IsLayoutOfFilter};
 ghost use Rattle.row_judges.specs.RowCosts.{ReportsRowWithin};
-ghost use Rattle.row_judges.specs.private.BoundedJudge.{ReportsValueWithin};
 
-use crate::bad_row::BadRow;
+use crate::bad_row::{BadRow, bad_text};
 use crate::row_judge::reported;
-use edm_entities::{Entity, RowFault};
+use edm_entities::Entity;
 use edm_rows::{LayoutReader, RowLayout, TypeRows};
 use edm_values::Moment;
 use odata_eval::{EvalFault, Verdict, evaluate_within};
 use odata_typing::Checked;
-use serde_json::Value;
 use std::alloc::Global;
 
 /// Judges rows by a filter, each within a bound on its cost. The bound is on the bodies of lambda operators that the
@@ -49,7 +46,7 @@ impl BoundedJudge<'_, '_> {
         let alloc = reader.allocator();
         match reader.read(layout, row) {
             Some(entity) => reported(self.judge_entity(alloc, &entity)),
-            None => self.judge_by_tree(alloc, row),
+            None => self.judge_text(alloc, row),
         }
     }
 
@@ -83,30 +80,14 @@ impl BoundedJudge<'_, '_> {
         evaluate_within(alloc, self.checked, entity, self.moment, self.most)
     }
 
-    /// Judges a row through a tree.
-    pub(crate) fn judge_by_tree(&self, alloc: Global, row: &[u8]) -> Result<Option<Verdict>, BadRow>
+    /// Judges a row by what its whole text stands for.
+    pub(crate) fn judge_text(&self, alloc: Global, row: &[u8]) -> Result<Option<Verdict>, BadRow>
         ensures { ReportsRowWithin self.now.checked.now self.now.moment.now row.now self.now.most result }
     {
-        match Value::from_slice(alloc, row) {
-            Ok(json) => self.judge_value(alloc, &json),
-            Err(error) => {
-                if error.is_memory() {
-                    Err(BadRow::NoEntity(RowFault::Memory))
-                } else {
-                    Err(BadRow::NotJson)
-                }
-            }
-        }
-    }
-
-    /// Judges a JSON value.
-    fn judge_value(&self, alloc: Global, json: &Value) -> Result<Option<Verdict>, BadRow>
-        ensures { ReportsValueWithin self.now.checked.now self.now.moment.now (view json.now) self.now.most result }
-    {
         let (schema, type_id) = (self.checked.schema(), self.checked.filtered_type());
-        match Entity::expanded_from_json(alloc, schema, type_id, self.checked.expansion(), json) {
+        match Entity::expanded_from_text(alloc, schema, type_id, self.checked.expansion(), row) {
             Ok(entity) => reported(self.judge_entity(alloc, &entity)),
-            Err(fault) => Err(BadRow::NoEntity(fault)),
+            Err(fault) => Err(bad_text(fault)),
         }
     }
 }

@@ -78,7 +78,7 @@ impl<'s> FilterRows<'s> {
         if reads_copy(&mut self.type_rows, &mut self.room, row) {
             return by.judge_held(&self.type_rows);
         }
-        by.judge_by_tree(row)
+        by.judge_text(row)
     }
 
     /// Judges a row within a bound on what it costs, as [`BoundedJudge::judge`] does. `None` if that is not enough. The
@@ -102,6 +102,6 @@ impl<'s> FilterRows<'s> {
         if reads_copy(&mut self.type_rows, &mut self.room, row) {
             return by.judge_held(self.alloc, &self.type_rows);
         }
-        by.judge_by_tree(self.alloc, row)
+        by.judge_text(self.alloc, row)
     }
 }

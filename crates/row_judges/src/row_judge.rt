@@ -14,8 +14,8 @@ ghost use Rattle.row_judges.specs.RowAnswer.{ReportsRow, judgment_reported};
 ghost use Rattle.row_judges.specs.RowJudgment.{JudgesValue};
 ghost use Rattle.row_judges.specs.private.ValueAnswer.{ReportsValue, answer_reported};
 
-use crate::bad_row::BadRow;
-use edm_entities::{Entity, RowFault};
+use crate::bad_row::{BadRow, bad_text};
+use edm_entities::Entity;
 use edm_values::Moment;
 use line_filter::{JudgeItem, Judgment};
 use odata_eval::{EvalFault, Verdict, evaluate};
@@ -66,20 +66,21 @@ impl RowJudge<'_, '_> {
         evaluate(self.alloc, self.checked, entity, self.moment)
     }
 
-    /// Judges a row through a tree.
+    /// Judges a row by what its whole text stands for.
     #[inline(never)]
-    pub(crate) fn judge_by_tree(&self, row: &[u8]) -> Result<Verdict, BadRow>
+    pub(crate) fn judge_text(&self, row: &[u8]) -> Result<Verdict, BadRow>
         ensures { ReportsRow self.now.checked.now self.now.moment.now row.now result }
     {
-        match Value::from_slice(self.alloc, row) {
-            Ok(json) => self.judge_value(&json),
-            Err(error) => {
-                if error.is_memory() {
-                    Err(BadRow::NoEntity(RowFault::Memory))
-                } else {
-                    Err(BadRow::NotJson)
-                }
-            }
+        let (schema, type_id) = (self.checked.schema(), self.checked.filtered_type());
+        match Entity::expanded_from_text(
+            self.alloc,
+            schema,
+            type_id,
+            self.checked.expansion(),
+            row,
+        ) {
+            Ok(entity) => reported(self.judge_entity(&entity)),
+            Err(fault) => Err(bad_text(fault)),
         }
     }
 }

@@ -81,6 +81,6 @@ impl Judge for RowLineJudge<'_, '_> {
 
     #[inline(never)]
     fn judge(&mut self, line: &[u8], _number: u64) -> Result<Judgment<BadRow>, AllocError> {
-        judgment_of(self.rows.judge_by_tree(line))
+        judgment_of(self.rows.judge_text(line))
     }
 }

@@ -97,6 +97,6 @@ pub fn judge_row(
     };
     match reader.read(layout, row) {
         Some(entity) => reported(judge.judge_entity(&entity)),
-        None => judge.judge_by_tree(row),
+        None => judge.judge_text(row),
     }
 }

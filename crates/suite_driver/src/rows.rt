@@ -47,8 +47,8 @@ fn push_by_tree(
     }
 }
 
-/// Appends what a line is straight from its bytes; nothing where that is not a row that fits, or not seen to be one.
-fn push_by_bytes(
+/// Appends what a line is by its text: `fits` with its values, or its fault.
+fn push_by_text(
     out: &mut String,
     alloc: Global,
     schema: &Schema,
@@ -57,17 +57,40 @@ fn push_by_bytes(
 ) -> Result<(), AllocError>
     requires { HoldsType schema.now id }
 {
+    match &Entity::expanded_from_text(alloc, schema, id, &Expansion::none(alloc), line) {
+        Ok(entity) => push_entity(out, entity),
+        Err(fault) => write!(out, "{fault}"),
+    }
+}
+
+/// Appends what a line is straight from its bytes, or by its text where these are not seen to be a row that fits; and
+/// whether they were.
+fn push_by_bytes(
+    out: &mut String,
+    alloc: Global,
+    schema: &Schema,
+    id: TypeId,
+    line: &[u8],
+) -> Result<bool, AllocError>
+    requires { HoldsType schema.now id }
+{
     let plan = RowPlan::new(alloc, schema, id, &Expansion::none(alloc));
     let layout = RowLayout::new(alloc, HeldSchema::Borrowed(schema), plan);
     let mut reader = LayoutReader::new(alloc);
     match reader.read(&layout, line) {
-        Some(entity) => push_entity(out, &entity),
-        None => Ok(()),
+        Some(entity) => {
+            push_entity(out, &entity)?;
+            Ok(true)
+        }
+        None => {
+            push_by_text(out, alloc, schema, id, line)?;
+            Ok(false)
+        }
     }
 }
 
 /// Appends what a line is as a row of a type, through a JSON value; and on a last line whether it is read straight from
-/// its bytes, and then as the same.
+/// its bytes, and whether it is the same without a JSON value.
 pub(crate) fn push_row(
     out: &mut String,
     alloc: Global,
@@ -78,13 +101,14 @@ pub(crate) fn push_row(
     requires { HoldsType schema.now id }
 {
     let mut bytes = String::new(alloc);
-    push_by_bytes(&mut bytes, alloc, schema, id, line)?;
+    let is_read = push_by_bytes(&mut bytes, alloc, schema, id, line)?;
     push_by_tree(out, alloc, schema, id, line)?;
-    out.push_str(if bytes.is_empty() {
-        "\nunread"
-    } else if bytes.as_str() == out.as_str() {
+    let is_other = bytes.as_str() != out.as_str() && bytes.as_str() != "memory";
+    out.push_str(if is_other {
+        "\nread otherwise"
+    } else if is_read {
         "\nread"
     } else {
-        "\nread otherwise"
+        "\nunread"
     })
 }

@@ -3,11 +3,8 @@ use Rattle.std.proofs.Common.{◌≡◌, ℕ, zero, suc, ◌<◌, ◌≤◌, ◌
 use Rattle.std.specs.Ordering.{match_ordering}
 use Rattle.std.specs.Cmp.Lexicographic.{slice_cmp}
 use Rattle.std.specs.Prelude.{max}
-use Rattle.std.specs.List.{slice_get}
 use Rattle.serde_json.specs.Data.{Data, null, boolean, number, string, array, object, Members, no_members, member, depth, items_depth, members_depth}
 use Rattle.serde_json.specs.Find.{get, get_member}
-use Rattle.serde_json.specs.View.{view, items_view}
-use Rattle.serde_json.specs.declared.value.Value.{Value}
 
 member_within : (name : List ℕ) (ms : Members) (d : Data) → get_member name ms ≡ Some d → depth d ≤ members_depth ms
 member_within name no_members d found = absurd (cc)
@@ -26,11 +23,6 @@ get_within name (boolean b) d found = absurd (cc)
 get_within name (number n) d found = absurd (cc)
 get_within name (string s) d found = absurd (cc)
 get_within name (array ds) d found = absurd (cc)
-
-pub item_within : (values : List Value) (n : ℕ) (v : Value) → slice_get values n ≡ Some v → depth (view v) ≤ items_depth (items_view values)
-item_within [] n v at = absurd (cc)
-item_within (w ∷ values) zero v at = let same : w ≡ v = cc in subst (λ (x : Value). depth (view x) ≤ max (depth (view w)) (items_depth (items_view values))) same (omega arith)
-item_within (w ∷ values) (suc n) v at = let within = item_within values n v at in omega arith
 
 -- how deep the JSON nests counts first, and at one depth the rank of the call: each call is of a lower rank there, or of a value that nests
 -- less deep

@@ -10,9 +10,12 @@ use Rattle.odata_eval.specs.CostsOn.{KeepsBound}
 use Rattle.odata_meaning.specs.MeansOn.{IsTheOutcome}
 use Rattle.odata_eval.specs.VerdictView.{outcome_reported}
 use Rattle.odata_eval.specs.declared.verdict.Verdict.{Verdict}
+use Rattle.edm_entities.specs.declared.text_fault.TextFault.{TextFault}
+use Rattle.row_judges.specs.RowAnswer.{ReportsRow}
 use Rattle.row_judges.specs.RowCosts.{ReportsRowWithin}
+use Rattle.row_judges.specs.private.BadTexts.{bad_text}
 use Rattle.row_judges.specs.declared.bad_row.BadRow.{BadRow}
-use Rattle.row_judges.specs.private.BoundedJudge.{ReportsValueWithin}
+use Rattle.row_judges.proofs.RowLemmas.BoundedValues.{ReportsValueWithin}
 use Rattle.row_judges.specs.private.ValueAnswer.{answer_reported}
 use Rattle.row_judges.proofs.RowLemmas.CostsBut.{IsRowCosting, cost_of_row}
 use Rattle.row_judges.proofs.RowLemmas.RowJudges.{row_reported}
@@ -48,3 +51,9 @@ row_within filter now row json most (Err (BadRow.NoValue fault)) is reports = λ
 )
 row_within filter now row json most (Err BadRow.NotJson) is reports = row_reported filter now row json (Err BadRow.NotJson) is reports
 row_within filter now row json most (Err (BadRow.NoEntity fault)) is reports = row_reported filter now row json (Err (BadRow.NoEntity fault)) is reports
+
+-- so is what is wrong with its text
+pub text_within : (filter : Filter) (now : MomentParts) (row : List ℕ) (most : ℕ) (fault : TextFault)
+    → ReportsRow filter now row (Err (bad_text fault)) → ReportsRowWithin filter now row most (Err (bad_text fault))
+text_within filter now row most TextFault.NotJson reports = reports
+text_within filter now row most (TextFault.NoEntity fault) reports = reports

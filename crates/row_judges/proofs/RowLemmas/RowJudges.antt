@@ -16,6 +16,8 @@ use Rattle.row_judges.specs.declared.bad_row.BadRow.{BadRow}
 use Rattle.edm_entities.specs.Fits.{Fits}
 use Rattle.edm_entities.specs.Row.{Row, expanded_by, slots_for, value_of}
 use Rattle.edm_entities.specs.RowFaults.{IsMemory, IsRowFault}
+use Rattle.edm_entities.specs.TextFaults.{IsTextFault}
+use Rattle.edm_entities.specs.declared.text_fault.TextFault.{TextFault}
 use Rattle.edm_entities.specs.declared.row_fault.RowFault.{RowFault}
 use Rattle.odata_meaning.specs.Means.{Means}
 use Rattle.odata_meaning.specs.MeansOn.{IsTheOutcome}
@@ -25,6 +27,7 @@ use Rattle.odata_eval.specs.VerdictView.{reported_outcome, verdict_val}
 use Rattle.odata_checked_filter.specs.Filter.{Filter, slots_for_filter, tree_of_filter}
 use Rattle.row_judges.specs.RowAnswer.{ReportsRow, is_memory, judgment_reported}
 use Rattle.row_judges.specs.RowJudgment.{HasOutcome, JudgesRow, JudgesValue}
+use Rattle.row_judges.specs.private.BadTexts.{bad_text}
 use Rattle.row_judges.specs.private.ValueAnswer.{ReportsValue, answer_reported}
 
 -- an entity of the filter's schema and type, read from the JSON with what the filter needs
@@ -151,6 +154,20 @@ module _ (filter : Filter) (now : MomentParts) where
   row_reported row json (Err BadRow.NotJson) is reported = absurd (reported refl)
   row_reported row json (Err (BadRow.NoEntity fault)) is reported = λ known. record { json = json; is_json = is; judged = reported known }
   row_reported row json (Err (BadRow.NoValue fault)) is reported = λ known. record { json = json; is_json = is; judged = reported known }
+
+  -- what is wrong with a row's text is reported about the row
+  pub text_reported : (row : List ℕ) (fault : TextFault) (s : SchemaModel) (n : ℕ) (expansion : List StepModel)
+      → s ≡ filter.schema → n ≡ filter.filtered → expansion ≡ filter.expansion
+      → IsTextFault (expanded_by s expansion) (type_name_at s n) row fault → ReportsRow filter now row (Err (bad_text fault))
+  text_reported row TextFault.NotJson s n expansion of_schema of_type of_expansion is = λ known. is
+  text_reported row (TextFault.NoEntity fault) s n expansion of_schema of_type of_expansion is =
+      λ known.
+      let first = is (not_memory fault known) in
+      record {
+        json = first.0;
+        is_json = first.1;
+        judged = fault_of_json filter now first.0 fault s n expansion of_schema of_type of_expansion (λ _. first.2) known;
+      }
 
   -- what is kept by what is reported is right to keep
   abbrev Says : {E : Type 0} → Result Verdict BadRow → Result (Judgment BadRow) E → Type 0

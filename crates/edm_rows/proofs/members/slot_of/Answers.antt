@@ -1,6 +1,6 @@
 use Rattle.std.proofs.Common.{inl, inr, sym, ◌∙◌, arith}
 use Rattle.csdl_schema.specs.SchemaModel.{properties_at}
-use Rattle.edm_rows.proofs.RowLemmas.SlotNames.{slot_is_named, no_slot_is_named}
+use Rattle.edm_entities.proofs.SlotLemmas.SlotNames.{slot_is_named, no_slot_is_named}
 use Rattle.edm_rows.proofs.SlotsHeld.{slot_within}
 use Rattle.edm_rows.proofs.members.slot_of.Goals as goal
 

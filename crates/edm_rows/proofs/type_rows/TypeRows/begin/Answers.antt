@@ -1,4 +1,4 @@
-use Rattle.std.proofs.Common.{◌<◌, List, length, Some, sym, subst, arith}
+use Rattle.std.proofs.Common.{◌<◌, List, length, Some, sym, subst, ◌∙◌, arith}
 use Rattle.csdl_schema.specs.SchemaModel.{properties_at}
 use Rattle.edm_rows.specs.private.Passed.{IsRowValue}
 use Rattle.edm_row_plans.specs.Expanded.{slots_at}
@@ -20,7 +20,8 @@ pub invariant_of-self : goal.invariant_of-self
 invariant_of-self c =
     let rows = c.self.inside in
     let some : 0 < length rows.types.items = omega arith in
-    let row = c.fill_row-self-inside.new.row in
+    let row = c.keep_if.new.row in
     reader_stays rows c.self.invariant c.fill_row-self-inside.new.cache rows.known row c.self.invariant.known c.fill_row-self-inside.result (types_there (schema_in rows.schema) rows.plan rows.types.items some c.self.invariant.types)
     (λ done. let fills = c.fill_row-self-inside.ensures done in
-    subst (λ s. IsRowValue (slots_at s rows.plan.expansion (Some 0)) (properties_at s rows.plan.type_id) row) c.schema.ensures (fills.values, fills.is_record, (fills.found, fills.fits)))
+    subst (λ s. IsRowValue (slots_at s rows.plan.expansion (Some 0)) (properties_at s rows.plan.type_id) row) c.schema.ensures
+    (fills.values, c.keep_if.ensures done ∙ fills.is_record, (fills.found, fills.fits)))

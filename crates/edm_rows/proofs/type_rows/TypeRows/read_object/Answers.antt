@@ -1,4 +1,4 @@
-use Rattle.std.proofs.Common.{rules, List, Some, refl, sym, subst}
+use Rattle.std.proofs.Common.{◌≡◌, ◌≢◌, rules, List, Some, refl, sym, subst, ◌∙◌}
 use Rattle.csdl_schema.specs.SchemaModel.{SchemaModel, properties_at}
 use Rattle.edm_rows.specs.private.Passed.{IsRowValue}
 use Rattle.edm_row_plans.specs.Expanded.{slots_at}
@@ -7,7 +7,10 @@ use Rattle.edm_rows.specs.RowsOfType.{RowsOfType}
 use Rattle.edm_rows.specs.declared.row_types.RowType.{RowType}
 use Rattle.edm_rows.specs.private.HeldRows.{AreTypesOf, HasFirstType, ReadsRowAt, rows_seen}
 use Rattle.edm_rows.specs.private.KnownTexts.{AreKnown}
-use Rattle.edm_rows.proofs.RowsRead.{by_way, item_left_out, item_taken}
+use Rattle.edm_rows.specs.declared.kept_leaf.Taken.{Taken}
+use Rattle.edm_rows.specs.declared.kept_leaf.Taken.TheVariants.{Broken, Put, Rejected}
+use Rattle.edm_values.specs.declared.value.Value.{Value}
+use Rattle.edm_rows.proofs.RowsRead.{by_way, item_left_out, item_taken, whole_unless}
 use Rattle.edm_rows.proofs.RowsStay.{reader_stays}
 use Rattle.edm_rows.proofs.TypesChanged.{first_distinct}
 use Rattle.edm_rows.proofs.type_rows.TypeRows.read_object.Goals as goal
@@ -35,9 +38,11 @@ invariant_of-self c =
     let rows = c.self.inside in
     let there = c.schema.ensures in
     let held = c.self.invariant.ready (search rules) in
-    reader_stays rows c.self.invariant c.keep_noted.new.cache c.keep_noted.new.known c.take_row-taken.new.row (subst (λ s. AreKnown s c.keep_noted.new.known) c.schema-2.ensures c.keep_noted.ensures) c.is_whole_row-self-inside.result held.0
-    (λ whole. subst (λ s. IsRowValue (slots_at s rows.plan.expansion (Some 0)) (properties_at s rows.plan.type_id) c.take_row-taken.new.row) there
-    (c.take_row-taken.ensures.conforms (c.is_whole_row-self-inside.ensures.whole whole)))
+    let row = c.keep_if.new.row in
+    reader_stays rows c.self.invariant c.keep_noted.new.cache c.keep_noted.new.known row (subst (λ s. AreKnown s c.keep_noted.new.known) c.schema-2.ensures c.keep_noted.ensures) c.is_whole_row-self-inside.result held.0
+    (λ whole. subst (λ s. IsRowValue (slots_at s rows.plan.expansion (Some 0)) (properties_at s rows.plan.type_id) row) there
+    (subst (λ v. IsRowValue (slots_at c.schema.result.now rows.plan.expansion (Some 0)) (properties_at c.schema.result.now rows.plan.type_id) v) (sym (c.keep_if.ensures whole))
+    (c.take_row-taken.ensures.conforms (c.is_whole_row-self-inside.ensures.whole whole))))
 
 pub returns-clause-object : goal.returns-clause-object
 returns-clause-object c =
@@ -51,9 +56,13 @@ returns-clause-object c =
     let ready = c.is_whole_row-self-inside.result in
     let row = c.take_row-taken.new.row in
     let taken = c.take_row-taken.result in
-    let seen : (SchemaModel → RowsOfType) = λ s. record (rows_seen rows) { schema = s; is_ready = ready; value = row } in
+    let seen : (Value → SchemaModel → RowsOfType) = λ v s. record (rows_seen rows) { schema = s; is_ready = ready; value = v } in
     let distinct = first_distinct c.schema.result.now rows.plan rows.types.items types in
-    subst (λ s. ReadsRowAt c.args.depth text place (seen s) taken) there
-    (by_way (ReadsRowAt c.args.depth text place (seen c.schema.result.now)) taken
-    (λ to is. item_taken _ row c.take_row-taken.result place to ready text rows.types.items c.args.depth c.take_row-taken.ensures.row c.new.ensures c.as_slice.ensures.value refl plan.held distinct is)
-    (λ to is. item_left_out _ row c.take_row-taken.result place to ready text rows.types.items c.args.depth c.take_row-taken.ensures.row c.new.ensures c.as_slice.ensures.value refl plan.held distinct is) tt tt)
+    let same : (taken ≢ Broken → row ≡ c.keep_if.new.row) = λ other. sym (c.keep_if.ensures (whole_unless ready taken c.is_whole_row-self-inside.ensures.broken other)) in
+    let Reads : (Taken → Value → Type 0) = λ way v. ReadsRowAt c.args.depth text place (seen v c.schema.result.now) way in
+    subst (λ s. ReadsRowAt c.args.depth text place (seen c.keep_if.new.row s) taken) there
+    (by_way (λ way. Reads way c.keep_if.new.row) taken
+    (λ to is. subst (Reads (Put to)) (same (λ broken. let put : Put to ≡ Broken = sym is ∙ broken in cc))
+    (item_taken _ row c.take_row-taken.result place to ready text rows.types.items c.args.depth c.take_row-taken.ensures.row c.new.ensures c.as_slice.ensures.value refl plan.held distinct is))
+    (λ to is. subst (Reads (Rejected to)) (same (λ broken. let rejected : Rejected to ≡ Broken = sym is ∙ broken in cc))
+    (item_left_out _ row c.take_row-taken.result place to ready text rows.types.items c.args.depth c.take_row-taken.ensures.row c.new.ensures c.as_slice.ensures.value refl plan.held distinct is)) tt tt)

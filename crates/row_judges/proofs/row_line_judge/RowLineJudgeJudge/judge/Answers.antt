@@ -10,4 +10,4 @@ returns-clause-said c =
     let now = c.self.inside.rows.moment.now in
     let line = c.args.line.now in
     subst (λ (f : FilterNow). IfOk c.judgment_of.result (JudgesRow f.filter f.moment line)) c.self.view_is
-    (line_judged filter now line c.judge_by_tree.result c.judgment_of.result c.judge_by_tree.ensures c.judgment_of.ensures)
+    (line_judged filter now line c.judge_text.result c.judgment_of.result c.judge_text.ensures c.judgment_of.ensures)

@@ -1,4 +1,4 @@
--- What is reported about a JSON value within a bound. Private clauses alone cite these.
+-- What is reported about a JSON value within a bound.
 use Rattle.std.specs.Prelude.{◌<◌, ◌≤◌, ℕ, Option, Some, None, Result, Ok, Err, IsFalse}
 use Rattle.serde_json.specs.Data.{Data}
 use Rattle.edm_values.specs.MomentParts.{MomentParts}
