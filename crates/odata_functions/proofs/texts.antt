@@ -1,4 +1,5 @@
 -- Functions of texts: bytes and the characters that they spell.
+pub mod Blanks
 pub mod Characters
 pub mod Decisions
 pub mod Fronts

@@ -28,6 +28,7 @@ mod promoting;
 mod text_case;
 mod text_parts;
 mod text_search;
+mod white_space;
 
 pub use arithmetic::{ArithFault, arith, negate};
 pub use bits::has_bits;

@@ -4,11 +4,13 @@ ghost use Rattle.std.specs.Str.{chars};
 ghost use Rattle.odata_functions.specs.Texts.{IsTrimmed, from_zero, part_from, rest_from};
 ghost use Rattle.odata_functions.specs.private.Cuts.{IsOffset, IsRemaining};
 
+use super::white_space::{without_end, without_start};
+
 /// Returns the text without the white space at both ends (section 5.1.1.7.4).
 pub fn trim(text: &str) -> &str
     ensures { IsTrimmed (chars text.now) (chars result.now) }
 {
-    text.trim_start().trim_end()
+    without_end(without_start(text))
 }
 
 /// Returns the text from an index on, or at most so many characters of that (section 5.1.1.5.7).
@@ -35,6 +37,13 @@ pub(crate) fn from_zero(n: i64) -> usize
 pub(crate) fn offset_of(text: &str, count: usize) -> usize
     ensures { IsOffset text.now count result }
 {
+    // No text has more characters than bytes, and each of ASCII is a byte.
+    if text.len() <= count {
+        return text.len();
+    }
+    if text.as_bytes()[..count].is_ascii() {
+        return count;
+    }
     text.len() - rest_behind(text, count).len()
 }
 

@@ -1,10 +1,10 @@
 -- The byte after so many characters.
 use Rattle.std.proofs.Common.{◌≡◌, ℕ, ◌+◌, ◌-◌, ◌≤◌, true, false, Option, Some, None, MatchOption, is_some, List, [], ◌∷◌, ◌++◌, length, take, drop, arith, refl, sym, ap, subst, ◌∙◌, append_assoc}
-use Rattle.std.proofs.Math.Seq.{take-append_seam, drop-append_seam}
+use Rattle.std.proofs.Math.Seq.{take-append_seam, take-length, drop-append_seam, drop-length}
 use Rattle.std.proofs.Math.Utf8.{encode}
-use Rattle.std.proofs.lemmas.List.{append-nil, drop_all, length-append, length-drop, take_all}
-use Rattle.std.proofs.lemmas.Str.{chars-append, chars-nil, IsCharBoundary-at_seam, IsUtf8-nil, IsUtf8-past_char, chars_past_char}
-use Rattle.std.specs.Str.{IsUtf8, chars}
+use Rattle.std.proofs.lemmas.List.{append-nil, drop_all, length-append, length-drop, length-take-le, take-append-drop, take_all}
+use Rattle.std.proofs.lemmas.Str.{chars-append, chars-IsAscii, chars-nil, chars_past_char, encodes-chars, IsCharBoundary-at_seam, IsCharBoundary-end, IsCharBoundary-from_take, IsUtf8-drop, IsUtf8-from_ascii, IsUtf8-nil, IsUtf8-past_char, length-le-encodes}
+use Rattle.std.specs.Str.{IsAscii, IsCharBoundary, IsUtf8, chars}
 use Rattle.odata_functions.specs.private.Cuts.{IsOffset, IsRemaining}
 use Rattle.odata_functions.proofs.texts.Characters.{front_utf8}
 
@@ -77,6 +77,30 @@ module _ (text : List ℕ) (of_text : IsUtf8 text) where
         front_chars = ap chars (ap (take (length r.front)) r.split ∙ take-append_seam r.front rest) ∙ r.front_chars;
         rest_chars = ap chars (ap (drop (length r.front)) r.split ∙ drop-append_seam r.front rest) ∙ r.rest_chars;
       })
+
+  -- no text has more characters than bytes
+  pub all_before : (count : ℕ) → length text ≤ count → IsOffset text count (length text)
+  all_before count small =
+      let fewer : length (chars text) ≤ count = omega (arith, small, length-le-encodes (chars text), ap length (encodes-chars text of_text)) in
+      record {
+        boundary = IsCharBoundary-end text;
+        front_chars = ap chars (take-length text) ∙ sym (take_all count (chars text) fewer);
+        rest_chars = ap chars (drop-length text) ∙ chars-nil ∙ sym (drop_all count (chars text) fewer);
+      }
+
+  -- each character of ASCII is a byte
+  pub plain_before : (count : ℕ) → count ≤ length text → IsAscii (take count text) → IsOffset text count count
+  plain_before count within plain =
+      let front = take count text in
+      let rest = drop count text in
+      let boundary : IsCharBoundary text count = IsCharBoundary-from_take text count of_text within (IsUtf8-from_ascii front plain) in
+      let same : length text - length rest ≡ count = omega (arith, within, length-drop count text) in
+      subst (IsOffset text count) same (rest_offset rest count (read_rest rest count (record {
+        front = front;
+        split = sym (take-append-drop count text);
+        rest_utf8 = IsUtf8-drop text count of_text boundary;
+        counted = ap length (chars-IsAscii front plain) ∙ length-take-le count text within;
+      })))
 
 pub nothing_left : (rest : List ℕ) (read : Option ℕ) (Same : Type 0) (P : ℕ → Type 0) → MatchOption read ((length rest ≡ 0) × Same) P
     → is_some read ≡ false → length rest ≡ 0
