@@ -46,7 +46,10 @@ pub enum Course {
 /// What comes next.
 #[derive(Clone, Copy, Debug, PartialEq, Eq)]
 pub enum Next {
+    /// A line that is not empty.
     Line,
+    /// A line without a byte.
+    Empty,
     End,
     Fault(LineFault),
 }
@@ -163,6 +166,9 @@ impl<R: Read> LineReader<R> {
             return Some(Next::Fault(LineFault::TooLong));
         }
         self.buffer.give_line(length);
+        if length == 0 {
+            return Some(Next::Empty);
+        }
         Some(Next::Line)
     }
 
@@ -261,7 +267,7 @@ impl<R: Read> LineReader<R> {
         ensures failed { (fault : LineFault) → self.old.course ≡ Course.Failed fault → result ≡ Err fault }
     {
         match self.advance() {
-            Next::Line => Ok(Some(self.line())),
+            Next::Line | Next::Empty => Ok(Some(self.line())),
             Next::End => Ok(None),
             Next::Fault(fault) => Err(fault),
         }

@@ -103,6 +103,10 @@ fn judge_stream<R: Read, S: Reads<R>, J: Judge, W, T: Writes<W>>(
             Next::Line => {}
             Next::End => return Ok(Ok(tally)),
             Next::Fault(fault) => return Ok(Err(fault_stop(fault, lines + 1))),
+            Next::Empty => {
+                lines += 1;
+                continue;
+            }
         }
         let line = reader.line();
         match judge.judge_at_front(

@@ -100,6 +100,10 @@ fn read_copy(rows: &mut TypeRows<'_>, room: &mut Vec<u8>, row: &[u8]) -> Reading
     ensures same { IsSameReader rows.old rows.new }
     ensures read { IsRead result row.now rows.new }
 {
+    // A line of spaces and controls is no row: for it no row is begun, and nothing is copied.
+    if row.iter().all(|byte| *byte <= b' ') {
+        return Reading::Unread;
+    }
     begin_first(rows, row);
     if !rows.has_row() || !copy_with_room(row, room) {
         return Reading::Unread;

@@ -50,7 +50,7 @@ module _ {F : Type 0} where
 abbrev tally_of : ℕ → ℕ → Tally
 tally_of rows kept = record { rows = rows; kept = kept }
 
-same_tally : (m n : Tally) → m.rows ≡ n.rows → m.kept ≡ n.kept → m ≡ n
+pub same_tally : (m n : Tally) → m.rows ≡ n.rows → m.kept ≡ n.kept → m ≡ n
 same_tally m n rows kept = ap (λ (r : ℕ). tally_of r m.kept) rows ∙ ap (λ (k : ℕ). tally_of n.rows k) kept
 
 -- of a line one kind is found, where the judge says one

@@ -101,15 +101,19 @@ module _ {R : Type 0} (remaining : R → Option (List ℕ)) (a b c : LineSource 
   whole_after (inl end) = inl end
   whole_after (inr whole) = inr (known_after (left_of remaining a) (left_of remaining b) (left_of remaining c) (λ bytes rest. bytes ≡ c.line ++ 10 ∷ rest) kept whole)
 
-  -- what was read first changes nothing of what is given
-  pub Gives-after : (next : Next) → Gives remaining b c next → Gives remaining a c next
-  Gives-after Next.Line given = record {
+  after_given : IsGiven remaining b c → IsGiven remaining a c
+  after_given given = record {
     first = known_after (left_of remaining a) (left_of remaining b) (left_of remaining c) (λ bytes rest. IsFirstLine bytes c.line rest) kept given.first;
     short = given.short;
     whole = whole_after given.whole;
     fewer = to_come_trans a b c same given.fewer;
     going = given.going;
   }
+
+  -- what was read first changes nothing of what is given
+  pub Gives-after : (next : Next) → Gives remaining b c next → Gives remaining a c next
+  Gives-after Next.Line given = after_given given
+  Gives-after Next.Empty given = (after_given given.0, given.1)
   Gives-after Next.End end = record {
     none_left = end_after (left_of remaining a) (left_of remaining b) kept end.none_left;
     over = end.over;

@@ -1,5 +1,5 @@
 -- What each step of a reader of lines gives. Private clauses alone cite these.
-use Rattle.std.specs.Prelude.{◌≡◌, ◌≢◌, ℕ, ◌+◌, ◌-◌, ◌<◌, ◌≤◌, List, ◌∷◌, ◌++◌, length, Option, IfSome, ◌⊎◌}
+use Rattle.std.specs.Prelude.{◌≡◌, ◌≢◌, ℕ, ◌+◌, ◌-◌, ◌<◌, ◌≤◌, List, [], ◌∷◌, ◌++◌, length, Option, IfSome, ◌⊎◌}
 use Rattle.std.specs.Io.KnownBytes.{Keeps, IsAtEnd}
 use Rattle.line_filter.specs.declared.line_reader.LineFault.{LineFault}
 use Rattle.line_filter.specs.declared.line_reader.Course.{Course}
@@ -56,9 +56,10 @@ pub record IsFault
   pub failed : new.course ≡ Course.Failed fault
   pub left : Keeps (left_of remaining old) (left_of remaining new)
 
--- what comes next
+-- what comes next: a line, of which it is said where it is empty; or that there is none
 abbrev pub Gives : {R : Type 0} → (R → Option (List ℕ)) → LineSource R → LineSource R → Next → Type 0
 Gives remaining old new Next.Line = IsGiven remaining old new
+Gives remaining old new Next.Empty = IsGiven remaining old new × (new.line ≡ [])
 Gives remaining old new Next.End = IsEnd remaining old new
 Gives remaining old new (Next.Fault fault) = IsFault remaining old new fault
 

@@ -14,7 +14,7 @@ use Rattle.line_filter.proofs.DeviceLaws.Unread.{going_read, reads_well_refl, re
 use Rattle.line_filter.proofs.ItemLaws.Passing.{outcome_counts}
 use Rattle.line_filter.proofs.ItemLaws.Stopping.{outcome_stops}
 use Rattle.line_filter.proofs.LineLaws.Found.{SaysTheSame-refl, SaysTheSame-trans, ComesOf-same}
-use Rattle.line_filter.proofs.RunLaws.AtOnce.{found_at_once, HasCome-at_fault, HasCome-kept, HasCome-left_out, HasCome-unkept}
+use Rattle.line_filter.proofs.RunLaws.AtOnce.{found_at_once, HasCome-at_fault, HasCome-empty, HasCome-kept, HasCome-left_out, HasCome-unkept}
 use Rattle.line_filter.proofs.RunLaws.Called.{reads_of_item, reads_reported}
 use Rattle.line_filter.proofs.RunLaws.Streams.{HasCome-none, HasCome-written, HasCome-unwritten, HasCome-end, HasCome-fault, HasCome-more, HasCome-stopped, HasCome-failed}
 use Rattle.line_filter.proofs.WriteLaws.HeldBack.{OnErr-from}
@@ -192,6 +192,33 @@ loop-fault-preserved-in-Some-LeftOut g c =
       reads_well_more g.S.Reads.calls g.R.Read.remaining c.args.reader.now c.loop-fault.reader c.next_line.new.reader i.5 c.in_ok-next_line.ensures.reads (going_read c.next_line.new.reader given.going),
       stays_well_trans _ (g.T.Writes.calls c.loop-fault.out) _ i.6 c.in_ok-next_line.ensures.well,
       λ is_unread. absurd (going_read c.next_line.new.reader given.going is_unread),
+    )
+
+pub loop-fault-preserved-in-Empty : goal.loop-fault-preserved-in-Empty
+loop-fault-preserved-in-Empty g c =
+    let i = c.loop-fault.invariant in
+    let says = g.J.Judge.says c.args.judge.now in
+    let a = left_of g.R.Read.remaining c.args.reader.now in
+    let r = left_of g.R.Read.remaining c.loop-fault.reader in
+    let s = left_of g.R.Read.remaining c.next_line.new.reader in
+    let u = g.T.Writes.contents c.args.out.now in
+    let v = g.T.Writes.contents c.next_line.new.out in
+    let line = c.next_line.new.reader.line in
+    let given = subst (Gives g.R.Read.remaining c.loop-fault.reader c.next_line.new.reader) c.in-Empty.is c.in_ok-next_line.ensures.given in
+    let not_over = λ (over : IsOver c.loop-fault.reader). let ends = c.in_ok-next_line.ensures.again.over over in absurd {A = ⊥} (cc) in
+    let came = HasCome-written says a r (IsOver c.loop-fault.reader → ⊥) u (g.T.Writes.contents c.loop-fault.out) v c.loop-fault.held.items c.next_line.new.held.items c.loop-fault.lines c.loop-fault.tally i.4 c.in_ok-next_line.ensures.ok in
+    let fewer = given.0.fewer in
+    let lines_fit : c.loop-fault.lines + 1 + bytes_to_come c.next_line.new.reader ≤ bytes_to_come c.args.reader.now = omega (arith, i.0, fewer) in
+    let rows_fit : c.loop-fault.tally.rows ≤ c.loop-fault.lines + 1 = omega (arith, i.1) in
+    let kept_fit : c.loop-fault.tally.kept ≤ c.loop-fault.lines + 1 = omega (arith, i.2) in (
+      lines_fit,
+      rows_fit,
+      kept_fit,
+      i.3,
+      HasCome-empty says line (IsOver c.loop-fault.reader → ⊥) u v c.next_line.new.held.items c.loop-fault.lines c.loop-fault.tally not_over a r s came given.0.first given.1 (IsOver c.next_line.new.reader) given.0.whole,
+      reads_well_more g.S.Reads.calls g.R.Read.remaining c.args.reader.now c.loop-fault.reader c.next_line.new.reader i.5 c.in_ok-next_line.ensures.reads (going_read c.next_line.new.reader given.0.going),
+      stays_well_trans _ (g.T.Writes.calls c.loop-fault.out) _ i.6 c.in_ok-next_line.ensures.well,
+      λ is_unread. absurd (going_read c.next_line.new.reader given.0.going is_unread),
     )
 
 pub returns-in-Some-Fault-clause-ok : goal.returns-in-Some-Fault-clause-ok

@@ -58,3 +58,22 @@ returns-clause-given g c =
           (c.give_line.ensures.line ∙ ap (take n) (same ∙ waits)) (c.give_line.ensures.waiting ∙ ap (drop (n + 1)) (same ∙ waits)) (omega arith) there is,
       λ is. cc,
     )
+
+pub returns-then-length-eq0-clause-given : goal.returns-then-length-eq0-clause-given
+returns-then-length-eq0-clause-given g c =
+    let ws = c.self.inside.buffer.waiting in
+    let n = c.in-Some.length in
+    let same : c.find_line_feed.new.self.waiting ≡ ws = ap (λ (w : Waits). w.waiting) c.find_line_feed.ensures.same in
+    let waits : ws ≡ c.args.self.now.waiting = ap (λ (s : LineSource g.row.R.Denot). s.waiting) c.self.view_is in
+    let found = c.in-Some.ensures.found in
+    let course : c.self.inside.course ≡ Course.Open = ap (λ (s : LineSource g.row.R.Denot). s.course) c.self.view_is ∙ c.requires in
+    let there = subst (λ (l : List ℕ). NoneBefore (Passes (is_byte 10) l) 0 (length l) n) waits found.0 in
+    let is = subst (λ (l : List ℕ). Passes (is_byte 10) l n) waits found.1 in
+    let given = c.give_line.ensures.line ∙ ap (take n) (same ∙ waits) in (
+      (
+        given_by_feed g.R.Read.remaining c.args.self.now _ (ap (λ (s : LineSource g.row.R.Denot). s.reader) c.self.view_is) n (subst IsGoing (sym course) tt) (ap (λ (s : LineSource g.row.R.Denot). s.unread) c.self.view_is)
+            given (c.give_line.ensures.waiting ∙ ap (drop (n + 1)) (same ∙ waits)) (omega arith) there is,
+        given ∙ ap (λ (k : ℕ). take k c.args.self.now.waiting) c.if-length-eq0.true,
+      ),
+      λ is. cc,
+    )
