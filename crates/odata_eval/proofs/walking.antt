@@ -2,9 +2,7 @@
 pub mod AndChains
 pub mod BaseSteps
 pub mod CallSteps
-pub mod Children
 pub mod Compared
-pub mod Extents
 pub mod FalseTerms
 pub mod ItemSteps
 pub mod KeptValues
@@ -14,16 +12,12 @@ pub mod Measures
 pub mod MemberSteps
 pub mod MemberValues
 pub mod MembersAsked
-pub mod Operands
-pub mod Parts
 pub mod PassedSlots
 pub mod Readings
 pub mod Sides
 pub mod SievedComparisons
 pub mod SlotValue
-pub mod Spines
 pub mod TextArguments
 pub mod TopNode
-pub mod Variables
 pub mod WalkSteps
 pub mod WalkValues

@@ -4,7 +4,7 @@
 //! second term is false. The plain terms before the first other one are asked of a context that is not kept in memory,
 //! which takes off another 57 of 1,216.
 ghost use Rattle.std.specs.Prelude.{◌<◌, ℕ, IfSome, IsTrue, Ok, Some};
-ghost use Rattle.odata_eval.specs.private.Place.{HasOperator, PartStands, TruthStands};
+ghost use Rattle.filter_context.specs.Place.{HasOperator, PartStands, TruthStands};
 ghost use Rattle.odata_eval.specs.private.RemainingTerms.{IsRemaining, ReportsTerms};
 ghost use Rattle.odata_eval.specs.private.WalkAnswer.{AnswersTruth};
 
@@ -13,7 +13,8 @@ use super::kept_arithmetic::arithmetic_compared_at;
 use super::kept_terms::{compared_with_literal, kept_truth_at};
 use super::logical::decides;
 use super::truth_walk::term_at;
-use super::walk_operand::{WalkClass, is_class_at, right_of};
+use super::walk_operand::{is_class_at, right_of};
+use filter_context::WalkClass;
 use odata_checked_filter::NodeKind;
 use odata_filter_operations::EvalFault;
 use odata_syntax::{BinaryOperator, LogicalOperator};

@@ -1,7 +1,7 @@
 //! The walk of a filter's list where collections, lists and flags are asked: of `in`, and of `has`.
 ghost use Rattle.std.specs.Prelude.{◌+◌, None, Ok};
 ghost use Rattle.odata_checked_filter.specs.declared.checked_node.NodeKind.{NodeKind as Kind};
-ghost use Rattle.odata_eval.specs.private.Place.{HasKind, PartStands};
+ghost use Rattle.filter_context.specs.Place.{HasKind, PartStands};
 ghost use Rattle.odata_eval.specs.private.Spending.{CountedDatum, SpendsRest, datum_stop};
 ghost use Rattle.odata_eval.specs.private.WalkAnswer.{AnswersDatum};
 

@@ -1,6 +1,6 @@
 //! The walk of values of any type: stored ones stay where they are, the others are made.
 ghost use Rattle.std.specs.Prelude.{◌+◌, None, Ok};
-ghost use Rattle.odata_eval.specs.private.Place.{HasCall, HasOperator, IsClassAt, OperandStands, PartStands};
+ghost use Rattle.filter_context.specs.Place.{HasCall, HasOperator, IsClassAt, OperandStands, PartStands};
 ghost use Rattle.odata_eval.specs.private.Spending.{CountedDatum, SpendsAt, SpendsRest, datum_stop};
 ghost use Rattle.odata_eval.specs.private.WalkAnswer.{AnswersDatum};
 
@@ -11,10 +11,9 @@ use super::lambda_walk::lambda_at;
 use super::number_walk::number_at;
 use super::stop::EvalStop;
 use super::truth_walk::truth_at;
-use super::walk_operand::{
-    WalkClass, WalkOperand, right_of, spine_bottom, stop_of, walk_operand_at,
-};
+use super::walk_operand::{WalkOperand, right_of, spine_bottom, stop_of, walk_operand_at};
 use edm_values::Datum;
+use filter_context::WalkClass;
 use odata_checked_filter::NodeKind;
 use odata_filter_operations::{
     any_item_of, called_on_one, called_on_three, called_on_two, comparison_cost, cost_of_one,

@@ -6,16 +6,16 @@ ghost use Rattle.csdl_schema.specs.SchemaModel.{properties_at, slots_of};
 ghost use Rattle.edm_entities.specs.Row.{IsEntity};
 ghost use Rattle.odata_checked_filter.specs.Filter.{IsFilter};
 ghost use Rattle.odata_signatures.specs.declared.edm_type.ValueType.{ValueType};
-ghost use Rattle.odata_eval.specs.private.Frames.{StandsAtLevel, frame_of, names_of};
+ghost use Rattle.filter_context.specs.Frames.{StandsAtLevel, frame_of, names_of};
 ghost use Rattle.odata_eval.specs.private.Lambda.{IsOverMembers, IsVariableOf, Suits};
-ghost use Rattle.odata_eval.specs.private.EvalContext.{EndsOnceHere, HoldsAt};
-ghost use Rattle.odata_eval.specs.private.ContextModel.{IsBeside, environment_of, with_frame};
+ghost use Rattle.filter_context.specs.EvalContext.{EndsOnceHere, HoldsAt};
+ghost use Rattle.filter_context.specs.ContextModel.{IsBeside, environment_of, with_frame};
 ghost use Rattle.odata_meaning.specs.Costs.{item_cost};
 ghost use Rattle.odata_eval.specs.private.Spending.{CostsOnceHere};
 
-use super::frames::{AtLevel, Frames, RangeVariable, at_level};
 use edm_entities::Entity;
 use edm_values::{Moment, Value};
+use filter_context::{AtLevel, Frames, RangeVariable, at_level};
 use odata_checked_filter::{Checked, CheckedNode};
 use odata_meaning::{typed_trees_cost_once_on_entities, typed_trees_end_once_on_entities};
 use odata_signatures::EdmType;
@@ -40,8 +40,8 @@ impl<'e, 'c, 'r> Model for EvalContext<'e, 'c, 'r> {
     ghost use Rattle.odata_checked_filter.specs.contracts.checked_node.CheckedNode as checked_node;
     ghost use Rattle.edm_values.specs.contracts.value.Value as value;
     ghost use Rattle.std.specs.Coded.{codes};
-    ghost use Rattle.odata_eval.specs.private.Frames.{frames_in};
-    ghost use Rattle.odata_eval.specs.private.ContextModel.{ContextModel, IsContext, context_in};
+    ghost use Rattle.filter_context.specs.Frames.{frames_in};
+    ghost use Rattle.filter_context.specs.ContextModel.{ContextModel, IsContext, context_in};
 
     ghost Value = { ContextModel };
 

@@ -1,12 +1,13 @@
 //! Comparisons of arithmetic over stored numbers: what most filters have of it, without a call and without a fault.
 ghost use Rattle.std.specs.Prelude.{◌+◌, IfSome, Ok, Some};
-ghost use Rattle.odata_eval.specs.declared.walk_operand.WalkClass.{WalkClass as Class};
-ghost use Rattle.odata_eval.specs.private.Place.{HasOperator, IsClassAt, PartStands};
+ghost use Rattle.filter_context.specs.declared.walk_class.WalkClass.{WalkClass as Class};
+ghost use Rattle.filter_context.specs.Place.{HasOperator, IsClassAt, PartStands};
 ghost use Rattle.odata_eval.specs.private.WalkAnswer.{AnswersNumber, AnswersTruth};
 
 use super::eval_context::EvalContext;
 use super::kept_operands::found_number_at;
-use super::walk_operand::{WalkClass, arithmetic_operator, right_of, spine_bottom};
+use super::walk_operand::{arithmetic_operator, right_of, spine_bottom};
+use filter_context::WalkClass;
 use odata_filter_operations::{calculated, compare_numbers};
 use odata_functions::operands_lie_within_promotion;
 use odata_signatures::trees_have_one_type;

@@ -3,9 +3,9 @@
 ghost use Rattle.std.specs.Prelude.{◌≡◌, ◌+◌, ℕ, IfSome, List, Ok, Some};
 ghost use Rattle.odata_checked_filter.specs.declared.checked_node.NodeKind.{NodeKind as Kind};
 ghost use Rattle.odata_eval.specs.private.KeptOperands.{AnswersCall, AnswersLast, AnswersLowered, AnswersText, IsPathAt};
-ghost use Rattle.odata_eval.specs.private.Place.{HasCall, HasKind, HasOperator, IsClassAt, OperandStands, PartStands};
+ghost use Rattle.filter_context.specs.Place.{HasCall, HasKind, HasOperator, IsClassAt, OperandStands, PartStands};
 ghost use Rattle.odata_eval.specs.private.WalkAnswer.{AnswersKept, AnswersNumber, AnswersTruth};
-ghost use Rattle.odata_eval.specs.declared.walk_operand.WalkClass.{WalkClass as Class};
+ghost use Rattle.filter_context.specs.declared.walk_class.WalkClass.{WalkClass as Class};
 
 use super::eval_context::EvalContext;
 use super::walk_operand::{right_of, stop_of};

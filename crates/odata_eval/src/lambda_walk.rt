@@ -6,17 +6,17 @@ ghost use Rattle.odata_checked_filter.specs.declared.checked_node.NodeKind.{Node
 ghost use Rattle.odata_filter_operations.specs.QuantifierGives.{IsUndecided, undecided_val};
 ghost use Rattle.odata_filter_operations.specs.TruthGives.{truth_val};
 ghost use Rattle.odata_eval.specs.private.Lambda.{BodyIsThere, Suits};
-ghost use Rattle.odata_eval.specs.private.Place.{HasKind, PartStands};
+ghost use Rattle.filter_context.specs.Place.{HasKind, PartStands};
 ghost use Rattle.odata_eval.specs.private.Spending.{CountedDatum, CountedMembers, SpendsMembers, SpendsRest, datum_stop, stopped_by};
 ghost use Rattle.odata_eval.specs.private.WalkAnswer.{AnswersDatum};
 
 use super::budget::Counting;
 use super::eval_context::EvalContext;
-use super::frames::RangeVariable;
 use super::stop::EvalStop;
 use super::truth_walk::side_at;
 use super::walk_operand::right_of;
 use edm_values::{Datum, Value};
+use filter_context::RangeVariable;
 use odata_filter_operations::datum_of_truth;
 use odata_signatures::trees_have_one_type;
 use odata_syntax::Quantifier;

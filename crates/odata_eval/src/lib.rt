@@ -16,7 +16,6 @@ mod collection_walk;
 mod datum_walk;
 mod eval_context;
 mod evaluator;
-mod frames;
 mod kept_arithmetic;
 mod kept_operands;
 mod kept_terms;

@@ -1,6 +1,6 @@
 //! The walk of a filter's list where numbers are taken: of arithmetic, and of `-`.
 ghost use Rattle.std.specs.Prelude.{◌≡◌, ◌+◌, None, Ok};
-ghost use Rattle.odata_eval.specs.private.Place.{HasOperator, IsClassAt, NumberStands, PartStands};
+ghost use Rattle.filter_context.specs.Place.{HasOperator, IsClassAt, NumberStands, PartStands};
 ghost use Rattle.odata_eval.specs.private.Spending.{CountedNumber, SpendsAt, SpendsRest, stopped_by};
 ghost use Rattle.odata_eval.specs.private.WalkAnswer.{AnswersNumber};
 
@@ -9,9 +9,9 @@ use super::datum_walk::counted_at;
 use super::eval_context::EvalContext;
 use super::stop::EvalStop;
 use super::walk_operand::{
-    WalkClass, WalkOperand, arithmetic_operator, is_class_at, right_of, spine_bottom,
-    walk_operand_at,
+    WalkOperand, arithmetic_operator, is_class_at, right_of, spine_bottom, walk_operand_at,
 };
+use filter_context::WalkClass;
 use odata_filter_operations::{calculated, kept_number, negated, number_of};
 use odata_functions::operands_lie_within_promotion;
 use odata_signatures::trees_have_one_type;

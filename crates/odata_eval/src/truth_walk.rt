@@ -5,7 +5,7 @@
 //!
 //! What is asked at each node is marked to be inlined, so that an answer is not passed on through memory.
 ghost use Rattle.std.specs.Prelude.{◌+◌, None, Ok};
-ghost use Rattle.odata_eval.specs.private.Place.{HasCall, HasOperator, IsClassAt, PartStands, TruthStands};
+ghost use Rattle.filter_context.specs.Place.{HasCall, HasOperator, IsClassAt, PartStands, TruthStands};
 ghost use Rattle.odata_eval.specs.private.Spending.{CountedTruth, SpendsAt, SpendsRest, stopped_by};
 ghost use Rattle.odata_eval.specs.private.WalkAnswer.{AnswersTruth};
 
@@ -19,10 +19,10 @@ use super::logical::{decides, join};
 use super::number_walk::number_at;
 use super::stop::EvalStop;
 use super::walk_operand::{
-    WalkClass, WalkOperand, is_class_at, logical_operator, right_of, spine_bottom, stop_of,
-    walk_operand_at,
+    WalkOperand, is_class_at, logical_operator, right_of, spine_bottom, stop_of, walk_operand_at,
 };
 use edm_values::Value;
+use filter_context::WalkClass;
 use odata_checked_filter::NodeKind;
 use odata_filter_operations::{
     EvalFault, called_on_two, compare_kept, compare_numbers, cost_of_two, datum_of,

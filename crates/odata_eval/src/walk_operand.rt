@@ -3,18 +3,9 @@ ghost use Rattle.std.specs.Prelude.{◌≡◌, ◌<◌, ◌≤◌, ◌↔◌, �
 
 use super::eval_context::EvalContext;
 use edm_values::Value;
+use filter_context::{WalkClass, walk_of_kind};
 use odata_checked_filter::NodeKind;
 use odata_syntax::{ArithmeticOperator, BinaryOperator, LogicalOperator};
-
-/// How the walk takes a node: as a value that is there, by the truth values of its operands, by their numbers, or by
-/// their values.
-#[derive(Clone, Copy, PartialEq, Eq)]
-pub(crate) enum WalkClass {
-    Leaf,
-    Logical,
-    Numeric,
-    Eager,
-}
 
 /// What a node is to the walk.
 #[derive(Clone, Copy)]
@@ -29,38 +20,8 @@ pub(crate) enum WalkOperand<'e> {
     Eager,
 }
 
-ghost use Rattle.odata_eval.specs.private.Place.{IsClassAt, IsRightOf, IsStopOf, OperandStands};
+ghost use Rattle.filter_context.specs.Place.{IsClassAt, IsRightOf, IsStopOf, OperandStands};
 ghost use Rattle.odata_eval.specs.private.WalkAnswer.{AnswersKept, IsWalkOperand};
-ghost use Rattle.odata_eval.specs.private.WalkClass.{walk_of_kind};
-
-/// How the walk takes a node of this kind.
-#[inline(always)]
-fn walk_of_kind(kind: NodeKind) -> WalkClass
-    ensures { result ≡ walk_of_kind kind }
-{
-    match kind {
-        NodeKind::Literal { .. } => WalkClass::Leaf,
-        NodeKind::It => WalkClass::Leaf,
-        NodeKind::Property { .. } => WalkClass::Leaf,
-        NodeKind::Variable { .. } => WalkClass::Leaf,
-        NodeKind::Member { .. } => WalkClass::Eager,
-        NodeKind::Count => WalkClass::Eager,
-        NodeKind::Neg => WalkClass::Numeric,
-        NodeKind::Not => WalkClass::Logical,
-        NodeKind::Has => WalkClass::Eager,
-        NodeKind::InList => WalkClass::Eager,
-        NodeKind::InPath => WalkClass::Eager,
-        NodeKind::Call { .. } => WalkClass::Eager,
-        NodeKind::AnyItem => WalkClass::Eager,
-        NodeKind::Lambda { .. } => WalkClass::Eager,
-        NodeKind::Now => WalkClass::Leaf,
-        NodeKind::Binary { operator } => match operator {
-            BinaryOperator::Logical(_) => WalkClass::Logical,
-            BinaryOperator::Comparison(_) => WalkClass::Eager,
-            BinaryOperator::Arithmetic(_) => WalkClass::Numeric,
-        },
-    }
-}
 
 /// The logical operator of a node of this kind. `None` where it has none.
 #[inline(always)]

@@ -21,9 +21,9 @@ pub use Rattle.odata_checked_filter.specs.private.Stands.{AllStand, ItemsStand}
 pub use Rattle.odata_checked_filter.specs.declared.checked_node.CheckedNode.{CheckedNode}
 pub use Rattle.odata_checked_filter.specs.declared.checked_node.NodeKind.{NodeKind}
 pub use Rattle.odata_checked_filter.specs.private.Layout.{AllLie, ChildrenLie, Lies}
-pub use Rattle.odata_eval.proofs.walking.Children.{body_stands}
-pub use Rattle.odata_eval.proofs.walking.Operands.{IsOther, one_kind}
-pub use Rattle.odata_eval.proofs.walking.Parts.{CasesOf, found_there, inside, some_there, there_found}
+pub use Rattle.filter_context.proofs.Children.{body_stands}
+pub use Rattle.filter_context.proofs.Operands.{IsOther, one_kind}
+pub use Rattle.filter_context.proofs.Parts.{CasesOf, found_there, inside, some_there, there_found}
 pub use Rattle.odata_filter_operations.specs.CalculationGives.{CalculationGives, GivesNumber, NegatedGives, number_outcome}
 pub use Rattle.odata_filter_operations.specs.CallGives.{CallGives, UnlessNull, has_null}
 pub use Rattle.odata_filter_operations.specs.CollectionGives.{AnyItemGives, CountGives, members_of}

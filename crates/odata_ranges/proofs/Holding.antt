@@ -3,8 +3,8 @@ use Rattle.odata_ranges.proofs.Common.{◌≡◌, ◌∙◌, ℕ, ◌<◌, ◌�
 use Rattle.std.proofs.lemmas.Bool.Decides.{nat_tests}
 use Rattle.std.proofs.lemmas.List.Folds.{find_at}
 use Rattle.edm_values.specs.PlainVal.{plain_val}
-use Rattle.odata_eval.proofs.walking.Children.{one_there}
-use Rattle.odata_eval.proofs.walking.Variables.{unbound}
+use Rattle.filter_context.proofs.Children.{one_there}
+use Rattle.filter_context.proofs.Variables.{unbound}
 use Rattle.odata_ranges.proofs.Forms.{TypedIn, holds_by, kind_there, type_there, value_has, valued_there}
 use Rattle.odata_ranges.proofs.KeptPaths.{field_kept, name_kept, null_if_true, tree_kept}
 

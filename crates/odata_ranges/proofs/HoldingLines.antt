@@ -1,7 +1,7 @@
 -- What `in` before a list and calls evaluate to lies within the ranges that are made for them.
 use Rattle.odata_ranges.proofs.Common.{◌≡◌, inl, inr, ℕ, zero, suc, ◌<◌, ◌≤◌, ◌+◌, List, [], ◌∷◌, Bool, true, false, Some, length, slice_get, refl, sym, subst, arith, IsSomeAnd, Date, Val, null, whole, text, date, moment, PrimitiveType, Tree, Trees, call, in_list, more_trees, no_trees, node, Any, ExprType, single, primitive, Slots, slots_of, type_name_at, HasType, ComparesTrue, Eq, IsNamed, Function, expr_type, Filter, AllStand, ChildrenStand, ItemsStand, AllLie, Lies, CheckedNode, NodeKind, stands_lie, lies_nonempty, Scope, TypedEndsOnce, scope_of, ArgumentsMean, ItemMeans, some_there, CallGives, UnlessNull, has_null, CompareGives, FunctionGives, ItemsGive, After, Then, Outcome, gives, overflow, divides_by_zero, AreWithin, CalledWithin, IsSpellable, AreRangesFrom, HoldsRange, IsContextOf, MeansIn, CheckContext, IsValueWithin, IsWithin, Range, AllPlaced, Covers, CoversLine}
 use Rattle.odata_syntax.specs.Spans.{list_of_trees}
-use Rattle.odata_eval.proofs.walking.Extents.{all_further_in, further_in}
+use Rattle.filter_context.proofs.Extents.{all_further_in, further_in}
 use Rattle.odata_ranges.proofs.Forms.{StandsIn, TypedIn, holds_by, lies, stop_there, top_node, type_there, value_has}
 use Rattle.odata_ranges.proofs.Layouts.{stop_there as stop_lies}
 use Rattle.odata_ranges.proofs.Holding.{FaultsWithin, after_within, faults_pass}

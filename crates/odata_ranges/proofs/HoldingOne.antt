@@ -1,6 +1,6 @@
 -- What nodes with one operand evaluate to lies within the ranges that are made for them.
 use Rattle.odata_ranges.proofs.Common.{◌≡◌, ℕ, ◌≤◌, ◌+◌, ℤ, pos, neg_ℤ, ◌≤ℤ◌, true, false, Option, Some, Result, Err, length, slice_get, refl, sym, subst, arith, FitsSigned, w64, ints, Val, null, boolean, whole, items, Vals, no_items, item, PrimitiveType, any_item, count, negation, node, ExprType, single, collection, primitive, slots_of, type_name_at, ComesWithin, NumbersGive, ArithFault, Overflow, DivideByZero, ArithmeticOperator, IsCollection, NegationTyped, expr_type, OneType, OperandTyped, Filter, CheckedNode, NodeKind, scope_of, InType, CalculationGives, NegatedGives, AnyItemGives, CountGives, members_of, Then, Outcome, gives, NotGives, IsKept, HoldsRange, MeansIn, IsValueWithin, IsWithin, Range, HoldsArithmetic}
-use Rattle.odata_eval.proofs.walking.Children.{one_there}
+use Rattle.filter_context.proofs.Children.{one_there}
 use Rattle.odata_ranges.proofs.Counts.{number_within}
 use Rattle.odata_ranges.proofs.Forms.{TypedIn, holds_by, type_there}
 use Rattle.odata_ranges.proofs.Holding.{after_within, faults_pass}

@@ -1,6 +1,6 @@
 -- Where the children of a node stand, and that they do.
 use Rattle.odata_ranges.proofs.Common.{◌≡◌, ◌⊎◌, inl, inr, ℕ, ℤ, ◌<◌, ◌≤◌, ◌+◌, List, [], ◌∷◌, Some, length, slice_get, refl, sym, ap, subst, arith, slice_get_within, Value, Tree, Trees, call, in_list, literal, more_trees, no_trees, node, BinaryOperator, LiteralKind, Quantifier, ExprType, slots_of, type_name_at, IsNamed, row_of, Function, AreTyped, Scope, Filter, IsFilter, AllLie, NumberStands, CheckedNode, NodeKind, numbered, lies_nonempty, one_kind, inside, there_found, NodeForm, HasForm, form_of, LieBetween}
-use Rattle.odata_eval.proofs.walking.Spines.{some_taken}
+use Rattle.filter_context.proofs.Spines.{some_taken}
 use Rattle.odata_ranges.proofs.Ends.{one_child, two_children}
 use Rattle.odata_ranges.proofs.Forms.{StandsIn, by_kind as there_by_kind, valued_there}
 use Rattle.odata_ranges.proofs.TreesAt.{number_there, something_there}

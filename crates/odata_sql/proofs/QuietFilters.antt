@@ -5,7 +5,7 @@ use Rattle.std.specs.Prelude.{IsSomeAnd, slice_get}
 use Rattle.odata_checked_filter.specs.Filter.{Filter}
 use Rattle.odata_checked_filter.specs.declared.checked_node.CheckedNode.{CheckedNode}
 use Rattle.odata_checked_filter.specs.declared.checked_node.NodeKind.{NodeKind}
-use Rattle.odata_eval.proofs.walking.Parts.{some_there}
+use Rattle.filter_context.proofs.Parts.{some_there}
 use Rattle.odata_ranges.specs.Faults.{AreReportedFrom, MakesNone}
 use Rattle.odata_ranges.specs.declared.range.Range.{Range}
 use Rattle.odata_signatures.specs.declared.edm_type.EdmType.{EdmType}

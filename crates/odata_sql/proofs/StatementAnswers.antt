@@ -13,7 +13,7 @@ use Rattle.odata_checked_filter.specs.Filter.{Filter, IsFilter, tree_of_filter}
 use Rattle.odata_checked_filter.specs.FlatTree.{tree_of_nodes}
 use Rattle.odata_checked_filter.specs.declared.checked_node.CheckedNode.{CheckedNode}
 use Rattle.odata_meaning.specs.EndsOnce.{EndsOnceOnEntities}
-use Rattle.odata_eval.proofs.walking.Parts.{there_found, some_there}
+use Rattle.filter_context.proofs.Parts.{there_found, some_there}
 use Rattle.odata_ranges.specs.Within.{IsWithin}
 use Rattle.odata_ranges.specs.declared.range.Range.{Range}
 use Rattle.sql_meaning.specs.OneMeaning.{HaveOneMeaning}

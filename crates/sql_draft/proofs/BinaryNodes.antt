@@ -11,7 +11,7 @@ use Rattle.odata_checked_filter.specs.declared.checked_node.NodeKind.{NodeKind}
 use Rattle.odata_meaning.specs.Environment.{scope_of}
 use Rattle.odata_meaning.specs.Means.{Means}
 use Rattle.odata_meaning.specs.OperatorGives.{SidesGive}
-use Rattle.odata_eval.specs.private.Place.{HasKind}
+use Rattle.filter_context.specs.Place.{HasKind}
 use Rattle.odata_signatures.specs.OperatorTyped.{IsEquality}
 use Rattle.odata_signatures.specs.Reads.{OfEquality}
 use Rattle.odata_signatures.specs.Typed.{Scope, Typed}

@@ -18,12 +18,12 @@ use Rattle.odata_checked_filter.specs.Filter.{Filter, IsFilter}
 use Rattle.odata_checked_filter.specs.Stands.{IsValueOf, NumberStands, Stands}
 use Rattle.odata_checked_filter.specs.declared.checked_node.CheckedNode.{CheckedNode}
 use Rattle.odata_checked_filter.specs.declared.checked_node.NodeKind.{NodeKind}
-use Rattle.odata_eval.proofs.walking.Operands.{one_kind}
-use Rattle.odata_eval.proofs.walking.Parts.{found_there, some_there, there_found}
-use Rattle.odata_eval.proofs.walking.Spines.{only_now}
+use Rattle.filter_context.proofs.Operands.{one_kind}
+use Rattle.filter_context.proofs.Parts.{found_there, some_there, there_found}
+use Rattle.filter_context.proofs.Spines.{only_now}
 use Rattle.odata_meaning.specs.Environment.{Environment, scope_of}
 use Rattle.odata_meaning.specs.Means.{ArgumentsMean, Means}
-use Rattle.odata_eval.specs.private.Place.{HasKind}
+use Rattle.filter_context.specs.Place.{HasKind}
 use Rattle.odata_signatures.specs.Laws.{OneLiteralValue}
 use Rattle.odata_signatures.specs.LiteralValue.{LiteralValue}
 use Rattle.odata_signatures.specs.Typed.{AreTyped, Scope}

@@ -13,7 +13,7 @@ use Rattle.odata_checked_filter.specs.declared.checked_node.CheckedNode.{Checked
 use Rattle.odata_checked_filter.specs.declared.checked_node.NodeKind.{NodeKind}
 use Rattle.odata_checked_filter.proofs.flat.Numbered.{numbered}
 use Rattle.odata_checked_filter.proofs.needed.Kinds.{step_there}
-use Rattle.odata_eval.proofs.walking.Parts.{found_there, some_there, there_found}
+use Rattle.filter_context.proofs.Parts.{found_there, some_there, there_found}
 use Rattle.odata_ranges.proofs.KeptPaths.{IsPathType, class_no_path, literal_no_path, no_path, number_no_path}
 use Rattle.sql_draft.specs.private.Paths.{IsBottom, IsBottomOf, IsMemberAt}
 use Rattle.sql_draft.specs.Translated.{IsPathAt, IsStep}

@@ -19,9 +19,9 @@ use Rattle.odata_checked_filter.proofs.needed.Kinds.{property_there, step_there,
 use Rattle.odata_checked_filter.proofs.needed.Steps.{slot_below}
 use Rattle.odata_meaning.specs.Environment.{Bound as Variable, Environment, scope_of, variable_value}
 use Rattle.odata_meaning.specs.NameGives.{FoundGives, StepGives}
-use Rattle.odata_eval.specs.private.Frames.{names_of}
-use Rattle.odata_eval.proofs.walking.Parts.{there_found}
-use Rattle.odata_eval.proofs.walking.Variables.{level_below, unbound}
+use Rattle.filter_context.specs.Frames.{names_of}
+use Rattle.filter_context.proofs.Parts.{there_found}
+use Rattle.filter_context.proofs.Variables.{level_below, unbound}
 use Rattle.odata_filter_operations.specs.LeftFirst.{Then}
 use Rattle.odata_filter_operations.specs.Outcome.{Outcome, gives, overflow, divides_by_zero}
 use Rattle.odata_ranges.specs.Owners.{BelongsTo, IsOwnerAt}

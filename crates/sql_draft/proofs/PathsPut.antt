@@ -9,7 +9,7 @@ use Rattle.odata_signatures.specs.Laws.{OneType}
 use Rattle.odata_checked_filter.specs.Filter.{Filter}
 use Rattle.odata_checked_filter.specs.declared.checked_node.CheckedNode.{CheckedNode}
 use Rattle.odata_checked_filter.specs.declared.checked_node.NodeKind.{NodeKind}
-use Rattle.odata_eval.proofs.walking.Parts.{found_there, there_found}
+use Rattle.filter_context.proofs.Parts.{found_there, there_found}
 use Rattle.odata_filter_operations.specs.Outcome.{gives}
 use Rattle.odata_ranges.specs.Owners.{IsOwnerAt, NamesSlotOf}
 use Rattle.sql_meaning.specs.PlaceGives.{BaseGives, PathGives, SlotGives, StepsGive}

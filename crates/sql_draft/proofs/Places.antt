@@ -7,9 +7,9 @@ use Rattle.odata_checked_filter.specs.FlatTree.{FlatTree}
 use Rattle.odata_checked_filter.specs.Stands.{HasOwnValue, IsKindOf, Stands}
 use Rattle.odata_checked_filter.specs.declared.checked_node.CheckedNode.{CheckedNode}
 use Rattle.odata_checked_filter.specs.declared.checked_node.NodeKind.{NodeKind}
-use Rattle.odata_eval.proofs.walking.Children.{one_there}
-use Rattle.odata_eval.proofs.walking.Parts.{CasesOf, found_there}
-use Rattle.odata_eval.specs.private.Place.{HasKind}
+use Rattle.filter_context.proofs.Children.{one_there}
+use Rattle.filter_context.proofs.Parts.{CasesOf, found_there}
+use Rattle.filter_context.specs.Place.{HasKind}
 use Rattle.odata_ranges.proofs.Forms.{by_case}
 use Rattle.odata_signatures.specs.Typed.{Scope}
 use Rattle.odata_syntax.specs.Tree.{Shape, Tree, member, node}

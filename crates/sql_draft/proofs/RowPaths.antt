@@ -16,7 +16,7 @@ use Rattle.odata_checked_filter.proofs.flat.Numbered.{numbered}
 use Rattle.odata_checked_filter.proofs.flat.Places.{same_found}
 use Rattle.odata_checked_filter.proofs.needed.Kinds.{step_there}
 use Rattle.odata_checked_filter.proofs.needed.Steps.{slot_below}
-use Rattle.odata_eval.proofs.walking.Parts.{found_there, some_there}
+use Rattle.filter_context.proofs.Parts.{found_there, some_there}
 use Rattle.odata_ranges.specs.Owners.{BelongsTo, IsOwnerAt, NamesProperty, NamesSlotOf}
 use Rattle.odata_ranges.proofs.PropertyOwners.{property_owned}
 use Rattle.sql_tree.specs.declared.json_path.Base.{Base}

@@ -18,10 +18,10 @@ pub use Rattle.odata_checked_filter.specs.private.Stands.{AllStand, ItemsStand}
 pub use Rattle.odata_checked_filter.specs.declared.checked_node.CheckedNode.{CheckedNode}
 pub use Rattle.odata_checked_filter.specs.declared.checked_node.NodeKind.{NodeKind}
 pub use Rattle.odata_checked_filter.specs.private.Layout.{Lies}
-pub use Rattle.odata_eval.proofs.walking.Children.{body_stands, one_there}
-pub use Rattle.odata_eval.proofs.walking.Extents.{further_in}
-pub use Rattle.odata_eval.proofs.walking.Parts.{found_there, goes_there, inside, some_there, there_found}
-pub use Rattle.odata_eval.specs.private.Place.{HasKind}
+pub use Rattle.filter_context.proofs.Children.{body_stands, one_there}
+pub use Rattle.filter_context.proofs.Extents.{further_in}
+pub use Rattle.filter_context.proofs.Parts.{found_there, goes_there, inside, some_there, there_found}
+pub use Rattle.filter_context.specs.Place.{HasKind}
 pub use Rattle.odata_filter_operations.specs.ArgumentValues.{OfText, OfTextAndNumbers, OfTexts}
 pub use Rattle.odata_filter_operations.specs.CalculationGives.{CalculationGives, ComputesTo, NegatedGives, number_outcome, number_val}
 pub use Rattle.odata_filter_operations.specs.CallGives.{CallGives, UnlessNull, has_null}

@@ -15,7 +15,7 @@ use Rattle.odata_signatures.specs.ExprTypes.{IsBooleanOrNull}
 use Rattle.odata_signatures.specs.declared.function.Function.{Function}
 use Rattle.odata_syntax.specs.declared.binary_operator.BinaryOperator.{BinaryOperator}
 use Rattle.odata_filter_operations.specs.declared.eval_fault.EvalFault.{EvalFault}
-use Rattle.odata_eval.specs.declared.walk_operand.WalkClass.{WalkClass}
+use Rattle.filter_context.specs.declared.walk_class.WalkClass.{WalkClass}
 use Rattle.odata_signatures.specs.CollectionTyped.{IsComparableWithMembers}
 use Rattle.odata_signatures.specs.HasTyped.{AreFlags}
 use Rattle.odata_filter_operations.specs.CalculationGives.{number_val}
@@ -29,7 +29,7 @@ use Rattle.edm_entities.specs.Row.{val_of}
 use Rattle.odata_filter_operations.specs.DatumView.{reading_at}
 use Rattle.odata_eval.specs.declared.stop.EvalStop.{EvalStop}
 use Rattle.odata_meaning.specs.Costs.{item_cost}
-use Rattle.odata_eval.specs.private.EvalContext.{EndsOnceHere, TypedHere}
+use Rattle.filter_context.specs.EvalContext.{EndsOnceHere, TypedHere}
 use Rattle.odata_eval.specs.private.Spending.{CountedDatum, CountedMembers, CountedNumber, CountedTruth, SpendsAt, IsTaken, Takes, datum_stop, path_due, stopped_by}
 use Rattle.odata_eval.specs.declared.budget.Budget.{Budget}
 use Rattle.odata_eval.proofs.spending.Budgets.{takes_nothing}
@@ -44,13 +44,13 @@ use Rattle.odata_eval.proofs.spending.Splits.{first_stops}
 use Rattle.odata_eval.proofs.spending.Stops.{after_stop, after_value, as_counted, as_number, as_paid, as_spent, by_stop, datum_faults, fault_paid, next_spent, number_faults, number_spent, truth_faults, unbounded_spends}
 use Rattle.odata_eval.proofs.spending.TextCosts.{numbers_cost}
 use Rattle.odata_eval.proofs.spending.Members.{all_paid, body_decides, body_passes, body_stops, none_left, none_paid}
-use Rattle.odata_eval.specs.private.Place.{HasCall, HasKind, HasOperator, IsNumberOperand, IsStopOf, NumberStands, OperandStands, PartStands, TruthStands}
-use Rattle.odata_eval.specs.private.WalkClass.{walk_of_kind}
+use Rattle.filter_context.specs.Place.{HasCall, HasKind, HasOperator, IsNumberOperand, IsStopOf, NumberStands, OperandStands, PartStands, TruthStands}
+use Rattle.filter_context.specs.WalkClass.{walk_of_kind}
 use Rattle.odata_eval.specs.private.WalkAnswer.{AllAnswered, AnswersDatum, AnswersNumber, AnswersTruth}
-use Rattle.odata_eval.specs.private.Frames.{frame_of}
+use Rattle.filter_context.specs.Frames.{frame_of}
 use Rattle.odata_eval.specs.private.Lambda.{Suits}
-use Rattle.odata_eval.specs.private.ContextModel.{ContextModel, environment_of, with_frame}
-use Rattle.odata_eval.proofs.walking.Parts.{found_there, part_inside, there_found}
+use Rattle.filter_context.specs.ContextModel.{ContextModel, environment_of, with_frame}
+use Rattle.filter_context.proofs.Parts.{found_there, part_inside, there_found}
 use Rattle.odata_eval.proofs.walking.CallSteps.{OneName, argument_behind, argument_faults, argument_stands, call_answers, call_applies, first_argument, third_is_last}
 use Rattle.odata_meaning.specs.private.LawsBelow.{Promotes}
 use Rattle.odata_eval.proofs.walking.BaseSteps.{any_item_base, base_answers, base_members, count_base}
@@ -63,11 +63,11 @@ use Rattle.odata_eval.proofs.walking.MemberSteps.{step_answers, step_slot}
 use Rattle.odata_eval.proofs.walking.Compared.{kept_compared, may_compare, may_compare_kept, numbers_compared, truth_compared}
 use Rattle.odata_eval.proofs.walking.KeptValues.{at_types, kept_value, value_kept}
 use Rattle.odata_eval.proofs.walking.Readings.{number_values, truth_values}
-use Rattle.odata_eval.proofs.walking.Extents.{right_further, right_part, right_there, right_typed}
-use Rattle.odata_eval.proofs.walking.Spines.{StepUp, at_top, below_bottom, bottom_down, first_faults, logical_stands, first_part, only_neg, only_not, part_down, step_up, typed_down, typed_part, walks_by}
+use Rattle.filter_context.proofs.Extents.{right_further, right_part, right_there, right_typed}
+use Rattle.filter_context.proofs.Spines.{StepUp, at_top, below_bottom, bottom_down, first_faults, logical_stands, first_part, only_neg, only_not, part_down, step_up, typed_down, typed_part, walks_by}
 use Rattle.odata_eval.proofs.walking.WalkSteps.{both_faults, calculation_answers, decided_answers, joined_answers, joined_faults, negated_operand, negation_answers, not_answers, numbers_there}
 use Rattle.odata_eval.proofs.walking.WalkValues.{kept_datum, made_value, read_value, value_there}
-use Rattle.odata_eval.proofs.walking.Operands.{operand_inside, tree_of_class, tree_operand}
+use Rattle.filter_context.proofs.Operands.{operand_inside, tree_of_class, tree_operand}
 use Rattle.odata_eval.proofs.walking.Measures.{measure_at, rank_counted, rank_eager, rank_number_operand, rank_numbers, rank_operand, rank_plain, rank_rest, rank_step, rank_test, rank_truth}
 use Rattle.odata_eval.proofs.+evaluate.Goals as goal
 

@@ -11,10 +11,10 @@ use Rattle.odata_meaning.specs.Environment.{Environment}
 use Rattle.odata_eval.specs.declared.budget.Budget.{Budget}
 use Rattle.odata_eval.specs.declared.stop.EvalStop.{EvalStop}
 use Rattle.odata_eval.specs.declared.verdict.Verdict.{Verdict}
-use Rattle.odata_eval.specs.private.Place.{OperandStands}
-use Rattle.odata_eval.specs.private.ContextModel.{ContextModel}
+use Rattle.filter_context.specs.Place.{OperandStands}
+use Rattle.filter_context.specs.ContextModel.{ContextModel}
 use Rattle.odata_eval.specs.private.Spending.{CostsHere, CostsOnceHere, SpendsAt, Spent, Takes}
-use Rattle.odata_eval.proofs.walking.Spines.{has_type}
+use Rattle.filter_context.proofs.Spines.{has_type}
 use Rattle.odata_eval.proofs.walking.TopNode.{no_variables, whole_stands, whole_typed}
 
 -- so many were taken for what stands there

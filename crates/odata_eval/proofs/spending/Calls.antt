@@ -19,18 +19,18 @@ use Rattle.odata_syntax.specs.Tree.{Trees, call, more_trees, no_trees, node}
 use Rattle.odata_meaning.specs.Costs.{ArgumentsCost}
 use Rattle.odata_eval.specs.declared.budget.Budget.{Budget}
 use Rattle.odata_eval.specs.declared.stop.EvalStop.{EvalStop}
-use Rattle.odata_eval.specs.private.Place.{HasKind, IsStopOf}
-use Rattle.odata_eval.specs.private.EvalContext.{EndsOnceHere, MeansHere, StandsHere}
-use Rattle.odata_eval.specs.private.ContextModel.{ContextModel, environment_of}
+use Rattle.filter_context.specs.Place.{HasKind, IsStopOf}
+use Rattle.filter_context.specs.EvalContext.{EndsOnceHere, MeansHere, StandsHere}
+use Rattle.filter_context.specs.ContextModel.{ContextModel, environment_of}
 use Rattle.odata_eval.specs.private.Spending.{CostsHere, SpendsAt, Spent, Takes}
 use Rattle.odata_eval.specs.private.WalkAnswer.{AnswersDatum}
 use Rattle.odata_meaning.proofs.meaning.CallEnds.{HaveTypes, applies_of}
 use Rattle.odata_eval.proofs.spending.Budgets.{spent_first, spent_same, spent_then, takes_both, takes_nothing}
 use Rattle.odata_eval.proofs.spending.Splits.{Faults, fault_rest, follows}
 use Rattle.odata_eval.proofs.walking.CallSteps.{OneName, no_more, own_stop, read_all, rest_stands, typed_call}
-use Rattle.odata_eval.proofs.walking.Operands.{no_number}
-use Rattle.odata_eval.proofs.walking.Parts.{by_kind}
-use Rattle.odata_eval.proofs.walking.Spines.{StandsAll, TypedAll}
+use Rattle.filter_context.proofs.Operands.{no_number}
+use Rattle.filter_context.proofs.Parts.{by_kind}
+use Rattle.filter_context.proofs.Spines.{StandsAll, TypedAll}
 use Rattle.odata_eval.proofs.walking.WalkValues.{value_has}
 
 module _ (context : ContextModel) where

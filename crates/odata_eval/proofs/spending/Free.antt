@@ -11,16 +11,16 @@ use Rattle.odata_syntax.specs.Tree.{Tree, Trees, more_trees, no_trees}
 use Rattle.odata_syntax.specs.declared.binary_operator.BinaryOperator.{BinaryOperator}
 use Rattle.odata_meaning.specs.Costs.{ArgumentsCost}
 use Rattle.odata_filter_operations.specs.TextCosts.{CallCosts, call_cost}
-use Rattle.odata_eval.specs.declared.walk_operand.WalkClass.{WalkClass}
-use Rattle.odata_eval.specs.private.Place.{HasKind, IsClassAt}
-use Rattle.odata_eval.specs.private.EvalContext.{StandsHere}
-use Rattle.odata_eval.specs.private.ContextModel.{ContextModel, environment_of}
+use Rattle.filter_context.specs.declared.walk_class.WalkClass.{WalkClass}
+use Rattle.filter_context.specs.Place.{HasKind, IsClassAt}
+use Rattle.filter_context.specs.EvalContext.{StandsHere}
+use Rattle.filter_context.specs.ContextModel.{ContextModel, environment_of}
 use Rattle.odata_eval.specs.private.Spending.{CostsHere}
-use Rattle.odata_eval.specs.private.WalkClass.{walk_of_kind, walk_of_operator}
+use Rattle.filter_context.specs.WalkClass.{walk_of_kind, walk_of_operator}
 use Rattle.odata_meaning.proofs.costs.Zero.{IsFree}
 use Rattle.odata_eval.proofs.walking.Leaves.{now_takes}
-use Rattle.odata_eval.proofs.walking.Parts.{by_kind, some_there, there_found}
-use Rattle.odata_eval.proofs.walking.Spines.{TypedAll, only_now}
+use Rattle.filter_context.proofs.Parts.{by_kind, some_there, there_found}
+use Rattle.filter_context.proofs.Spines.{TypedAll, only_now}
 
 -- no operator is taken as a leaf
 operator_inner : (operator : BinaryOperator) → walk_of_operator operator ≡ WalkClass.Leaf → ⊥

@@ -15,15 +15,15 @@ use Rattle.odata_meaning.specs.Costs.{CostThen, item_cost}
 use Rattle.odata_filter_operations.specs.TextCosts.{comparison_cost}
 use Rattle.odata_eval.specs.declared.budget.Budget.{Budget}
 use Rattle.odata_eval.specs.declared.stop.EvalStop.{EvalStop}
-use Rattle.odata_eval.specs.private.EvalContext.{EndsOnceHere, OperandHere, StandsHere, TypedHere}
-use Rattle.odata_eval.specs.private.ContextModel.{ContextModel, environment_of}
+use Rattle.filter_context.specs.EvalContext.{EndsOnceHere, OperandHere, StandsHere, TypedHere}
+use Rattle.filter_context.specs.ContextModel.{ContextModel, environment_of}
 use Rattle.odata_eval.specs.private.Spending.{CostsHere, HasFewer, SpendsAt, SpendsRest, Spent, Takes}
 use Rattle.odata_eval.proofs.spending.Budgets.{fewer_first, fewer_then, spent_first, spent_same, spent_then, takes_both}
 use Rattle.odata_eval.proofs.spending.Items.{AfterItem, ItemsCostHere, ItemsDue, SideItem, alone_faults}
 use Rattle.odata_eval.proofs.spending.Splits.{Faults, SplitWith, fault_follows, operand_spent, rest_spends}
 use Rattle.odata_eval.proofs.walking.ItemSteps.{EqualDue, ItemsLeft, ListLeft, ListedHere, NextDue, left_at, no_more_listed}
-use Rattle.odata_eval.proofs.walking.Operands.{AloneHere, ResolvedHere, resolved_here, resolved_reports}
-use Rattle.odata_eval.proofs.walking.Spines.{TypedAll, has_type}
+use Rattle.filter_context.proofs.Operands.{AloneHere, ResolvedHere, resolved_here, resolved_reports}
+use Rattle.filter_context.proofs.Spines.{TypedAll, has_type}
 
 module _ (context : ContextModel) where
   module _ (place own at : ℕ) (left : Datum) (old now : Budget) (rest : ListLeft context place own at (Takes old now) left) where

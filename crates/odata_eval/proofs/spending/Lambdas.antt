@@ -20,21 +20,21 @@ use Rattle.odata_meaning.specs.Costs.{Costs, MembersCost}
 use Rattle.odata_meaning.specs.Environment.{bound_over, scope_of}
 use Rattle.odata_meaning.specs.Means.{Means}
 use Rattle.odata_eval.specs.declared.budget.Budget.{Budget}
-use Rattle.odata_eval.specs.declared.frames.RangeVariable.{RangeVariable}
+use Rattle.filter_context.specs.declared.frames.RangeVariable.{RangeVariable}
 use Rattle.odata_eval.specs.declared.stop.EvalStop.{EvalStop}
 use Rattle.odata_eval.specs.private.Lambda.{IsVariableOf, type_of_variable, vals_of}
-use Rattle.odata_eval.specs.private.Place.{HasKind, IsRightOf}
-use Rattle.odata_eval.specs.private.EvalContext.{EndsOnceHere, MeansHere}
-use Rattle.odata_eval.specs.private.ContextModel.{ContextModel, environment_of}
+use Rattle.filter_context.specs.Place.{HasKind, IsRightOf}
+use Rattle.filter_context.specs.EvalContext.{EndsOnceHere, MeansHere}
+use Rattle.filter_context.specs.ContextModel.{ContextModel, environment_of}
 use Rattle.odata_eval.specs.private.Spending.{CostsHere, SpendsMembers, SpendsRest, Spent}
 use Rattle.odata_eval.specs.private.WalkAnswer.{AnswersDatum}
 use Rattle.odata_eval.proofs.spending.Budgets.{spent_same, takes_nothing}
 use Rattle.odata_eval.proofs.spending.Splits.{SplitWith, follows, rest_spends}
-use Rattle.odata_eval.proofs.walking.Children.{body_stands}
+use Rattle.filter_context.proofs.Children.{body_stands}
 use Rattle.odata_eval.proofs.walking.Lambdas.{IsNamed, in_scope, is_named, null_otherwise, vals_same}
-use Rattle.odata_eval.proofs.walking.Operands.{no_number}
-use Rattle.odata_eval.proofs.walking.Parts.{by_kind}
-use Rattle.odata_eval.proofs.walking.Extents.{stops_there}
+use Rattle.filter_context.proofs.Operands.{no_number}
+use Rattle.filter_context.proofs.Parts.{by_kind}
+use Rattle.filter_context.proofs.Extents.{stops_there}
 use Rattle.odata_eval.proofs.walking.WalkValues.{value_has}
 
 module _ (types : OneType) (context : ContextModel) (place : ℕ) (quantifier : Quantifier) (here : HasKind context.list place (NodeKind.Lambda quantifier)) (ends : EndsOnceHere context) where

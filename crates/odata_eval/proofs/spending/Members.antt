@@ -14,17 +14,17 @@ use Rattle.odata_syntax.specs.declared.node.Quantifier.{Quantifier}
 use Rattle.odata_meaning.specs.Costs.{CostAfter, Costs, MembersCost, OthersCost}
 use Rattle.odata_meaning.specs.Environment.{bound_over}
 use Rattle.odata_eval.specs.declared.budget.Budget.{Budget}
-use Rattle.odata_eval.specs.declared.frames.RangeVariable.{RangeVariable}
+use Rattle.filter_context.specs.declared.frames.RangeVariable.{RangeVariable}
 use Rattle.odata_eval.specs.declared.stop.EvalStop.{EvalStop}
-use Rattle.odata_eval.specs.private.Frames.{frame_of}
+use Rattle.filter_context.specs.Frames.{frame_of}
 use Rattle.odata_eval.specs.private.Lambda.{BodyMeans, BodyStands, type_of_variable, vals_of}
-use Rattle.odata_eval.specs.private.EvalContext.{EndsOnceHere}
-use Rattle.odata_eval.specs.private.ContextModel.{ContextModel, environment_of, with_frame}
+use Rattle.filter_context.specs.EvalContext.{EndsOnceHere}
+use Rattle.filter_context.specs.ContextModel.{ContextModel, environment_of, with_frame}
 use Rattle.odata_eval.specs.private.Spending.{HasFewer, SpendsAt, SpendsMembers, Takes}
 use Rattle.odata_eval.specs.private.WalkAnswer.{AnswersTruth}
 use Rattle.odata_eval.proofs.spending.Budgets.{fewer_first, fewer_then, spent_first, spent_same, spent_then, takes_both, takes_nothing}
 use Rattle.odata_eval.proofs.spending.Splits.{Faults, fault_follows, follows}
-use Rattle.odata_eval.proofs.walking.Spines.{has_type}
+use Rattle.filter_context.proofs.Spines.{has_type}
 
 -- a value that decides asks for no more, another one for the others
 decided_others : (quantifier : Quantifier) (Others : ℕ → Type 0) (truth : Option Bool) (n : ℕ) → ¬ (IsUndecided quantifier (truth_val truth)) → OthersCost quantifier Others (truth_val truth) n → n ≡ 0

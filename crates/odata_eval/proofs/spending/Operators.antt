@@ -16,17 +16,17 @@ use Rattle.odata_meaning.specs.Costs.{CostAfter, CostThen, CostsExactly, RightCo
 use Rattle.odata_filter_operations.specs.TextCosts.{comparison_cost, operator_cost}
 use Rattle.odata_eval.specs.declared.budget.Budget.{Budget}
 use Rattle.odata_eval.specs.declared.stop.EvalStop.{EvalStop}
-use Rattle.odata_eval.specs.private.Place.{HasKind, IsRightOf}
-use Rattle.odata_eval.specs.private.EvalContext.{EndsOnceHere, MeansHere, NumberHere, OperandHere, StandsHere, TypedHere}
-use Rattle.odata_eval.specs.private.ContextModel.{ContextModel}
+use Rattle.filter_context.specs.Place.{HasKind, IsRightOf}
+use Rattle.filter_context.specs.EvalContext.{EndsOnceHere, MeansHere, NumberHere, OperandHere, StandsHere, TypedHere}
+use Rattle.filter_context.specs.ContextModel.{ContextModel}
 use Rattle.odata_eval.specs.private.Spending.{CostsHere, SpendsAt, SpendsRest, Spent, Takes}
-use Rattle.odata_eval.specs.private.WalkAnswer.{AnswersAtPlace}
+use Rattle.filter_context.specs.AnswersAtPlace.{AnswersAtPlace}
 use Rattle.odata_meaning.proofs.meaning.Reads.{beside}
 use Rattle.odata_eval.proofs.spending.Budgets.{spent_first, spent_same, spent_then}
 use Rattle.odata_eval.proofs.spending.Splits.{Faults, SplitWith, fault_rest, follows, operand_spent, rest_spends}
-use Rattle.odata_eval.proofs.walking.Extents.{left_here, right_stands}
-use Rattle.odata_eval.proofs.walking.Operands.{ResolvedHere, no_number, number_is, resolved_here}
-use Rattle.odata_eval.proofs.walking.Parts.{by_kind}
+use Rattle.filter_context.proofs.Extents.{left_here, right_stands}
+use Rattle.filter_context.proofs.Operands.{ResolvedHere, no_number, number_is, resolved_here}
+use Rattle.filter_context.proofs.Parts.{by_kind}
 use Rattle.odata_eval.proofs.walking.WalkValues.{value_has}
 
 -- ---- values that are no texts

@@ -22,18 +22,18 @@ use Rattle.odata_syntax.specs.declared.node.Quantifier.{Quantifier}
 use Rattle.odata_meaning.specs.Costs.{AmongCosts, CostAfter, CostThen, CostsExactly, MembersCost, OthersCost, item_cost}
 use Rattle.odata_eval.specs.declared.budget.Budget.{Budget}
 use Rattle.odata_eval.specs.declared.stop.EvalStop.{EvalStop}
-use Rattle.odata_eval.specs.private.Place.{HasKind, IsRightOf}
-use Rattle.odata_eval.specs.private.EvalContext.{EndsOnceHere, MeansHere, StandsHere, TypedHere}
-use Rattle.odata_eval.specs.private.ContextModel.{ContextModel, environment_of}
+use Rattle.filter_context.specs.Place.{HasKind, IsRightOf}
+use Rattle.filter_context.specs.EvalContext.{EndsOnceHere, MeansHere, StandsHere, TypedHere}
+use Rattle.filter_context.specs.ContextModel.{ContextModel, environment_of}
 use Rattle.odata_eval.specs.private.Spending.{CostsHere, SpendsAt, SpendsRest, Spent, Takes, member_due, members_due, path_due, stored_cost}
 use Rattle.odata_eval.specs.private.WalkAnswer.{AnswersDatum}
 use Rattle.odata_eval.proofs.spending.Budgets.{spent_first, spent_same, spent_then}
 use Rattle.odata_eval.proofs.spending.Splits.{Faults, SplitWith, fault_rest, follows, rest_spends}
 use Rattle.odata_eval.proofs.spending.TextCosts.{value_cost}
-use Rattle.odata_eval.proofs.walking.Children.{two_children}
-use Rattle.odata_eval.proofs.walking.Extents.{stops_there}
-use Rattle.odata_eval.proofs.walking.Operands.{no_number}
-use Rattle.odata_eval.proofs.walking.Parts.{by_kind}
+use Rattle.filter_context.proofs.Children.{two_children}
+use Rattle.filter_context.proofs.Extents.{stops_there}
+use Rattle.filter_context.proofs.Operands.{no_number}
+use Rattle.filter_context.proofs.Parts.{by_kind}
 
 -- ---- what comparisons with members cost
 

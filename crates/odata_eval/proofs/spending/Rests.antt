@@ -14,9 +14,9 @@ use Rattle.odata_syntax.specs.Tree.{Tree, binary, node}
 use Rattle.odata_meaning.specs.Costs.{CostAfter, CostThen, CostsExactly, RightCosts}
 use Rattle.odata_eval.specs.declared.budget.Budget.{Budget}
 use Rattle.odata_eval.specs.declared.stop.EvalStop.{EvalStop}
-use Rattle.odata_eval.specs.private.Place.{HasKind, IsRightOf}
-use Rattle.odata_eval.specs.private.EvalContext.{EndsOnceHere, MeansHere, OperandHere, StandsHere, TypedHere}
-use Rattle.odata_eval.specs.private.ContextModel.{ContextModel}
+use Rattle.filter_context.specs.Place.{HasKind, IsRightOf}
+use Rattle.filter_context.specs.EvalContext.{EndsOnceHere, MeansHere, OperandHere, StandsHere, TypedHere}
+use Rattle.filter_context.specs.ContextModel.{ContextModel}
 use Rattle.odata_eval.specs.private.Spending.{CostsHere, SpendsAt, SpendsRest, Spent}
 use Rattle.odata_eval.specs.private.WalkAnswer.{AnswersDatum, AnswersTruth}
 use Rattle.odata_meaning.specs.private.Decided.{IsDecided}
@@ -24,11 +24,11 @@ use Rattle.odata_meaning.proofs.costs.Zero.{then_free}
 use Rattle.odata_eval.proofs.spending.Budgets.{spent_same, takes_nothing}
 use Rattle.odata_eval.proofs.spending.Free.{FreeThere}
 use Rattle.odata_eval.proofs.spending.Splits.{SplitWith, follows, no_more, operand_spent, rest_spends}
-use Rattle.odata_eval.proofs.walking.Children.{only_child}
-use Rattle.odata_eval.proofs.walking.Parts.{by_kind}
-use Rattle.odata_eval.proofs.walking.Extents.{left_here, operand_stops_there, right_beside, stops_there}
+use Rattle.filter_context.proofs.Children.{only_child}
+use Rattle.filter_context.proofs.Parts.{by_kind}
+use Rattle.filter_context.proofs.Extents.{left_here, operand_stops_there, right_beside, stops_there}
 use Rattle.odata_signatures.specs.Reads.{OfEquality}
-use Rattle.odata_eval.proofs.walking.Operands.{IsOther, ResolvedHere, no_number, resolved_here}
+use Rattle.filter_context.proofs.Operands.{IsOther, ResolvedHere, no_number, resolved_here}
 
 -- ---- a tree that costs nothing
 

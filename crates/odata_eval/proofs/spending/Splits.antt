@@ -15,21 +15,21 @@ use Rattle.odata_syntax.specs.Tree.{Tree, Trees, literal, node, call, more_trees
 use Rattle.odata_syntax.specs.declared.node.LiteralKind.{LiteralKind}
 use Rattle.odata_meaning.specs.Costs.{CostAfter, CostThen}
 use Rattle.odata_eval.specs.declared.budget.Budget.{Budget}
-use Rattle.odata_eval.specs.declared.walk_operand.WalkClass.{WalkClass}
+use Rattle.filter_context.specs.declared.walk_class.WalkClass.{WalkClass}
 use Rattle.odata_eval.specs.declared.stop.EvalStop.{EvalStop}
-use Rattle.odata_eval.specs.private.Place.{HasKind, IsClassAt}
-use Rattle.odata_eval.specs.private.EvalContext.{EndsOnceHere, MeansHere, NumberHere, OperandHere, StandsHere}
-use Rattle.odata_eval.specs.private.ContextModel.{ContextModel}
+use Rattle.filter_context.specs.Place.{HasKind, IsClassAt}
+use Rattle.filter_context.specs.EvalContext.{EndsOnceHere, MeansHere, NumberHere, OperandHere, StandsHere}
+use Rattle.filter_context.specs.ContextModel.{ContextModel}
 use Rattle.odata_eval.specs.private.Spending.{CostsHere, SpendsAt, SpendsRest, Spent}
-use Rattle.odata_eval.specs.private.WalkAnswer.{AnswersAtPlace}
-use Rattle.odata_eval.specs.private.WalkClass.{walk_of_kind}
+use Rattle.filter_context.specs.AnswersAtPlace.{AnswersAtPlace}
+use Rattle.filter_context.specs.WalkClass.{walk_of_kind}
 use Rattle.odata_eval.proofs.spending.Budgets.{spent_first, spent_same, spent_then}
 use Rattle.odata_meaning.proofs.costs.Zero.{IsFree}
-use Rattle.odata_eval.proofs.walking.Children.{only_child}
-use Rattle.odata_eval.proofs.walking.Operands.{HasNone, fault_no_value, inner_number}
-use Rattle.odata_eval.proofs.walking.Parts.{by_kind, some_there, there_found}
-use Rattle.odata_eval.proofs.walking.Extents.{left_here}
-use Rattle.odata_eval.proofs.walking.Spines.{has_type, no_empty_call, only_now}
+use Rattle.filter_context.proofs.Children.{only_child}
+use Rattle.filter_context.proofs.Operands.{HasNone, fault_no_value, inner_number}
+use Rattle.filter_context.proofs.Parts.{by_kind, some_there, there_found}
+use Rattle.filter_context.proofs.Extents.{left_here}
+use Rattle.filter_context.proofs.Spines.{has_type, no_empty_call, only_now}
 
 -- ---- what follows an outcome that is known
 

@@ -10,16 +10,16 @@ use Rattle.odata_syntax.specs.declared.binary_operator.LogicalOperator.{LogicalO
 use Rattle.odata_checked_filter.specs.FlatTree.{FlatTree}
 use Rattle.odata_filter_operations.specs.TruthGives.{joined, truth_val}
 use Rattle.odata_filter_operations.specs.declared.eval_fault.EvalFault.{EvalFault}
-use Rattle.odata_eval.specs.declared.walk_operand.WalkClass.{WalkClass}
-use Rattle.odata_eval.specs.private.Place.{HasOperator, IsClassAt, IsRightOf, OperandStands, PartStands, TruthStands}
-use Rattle.odata_eval.specs.private.ContextModel.{ContextModel}
+use Rattle.filter_context.specs.declared.walk_class.WalkClass.{WalkClass}
+use Rattle.filter_context.specs.Place.{HasOperator, IsClassAt, IsRightOf, OperandStands, PartStands, TruthStands}
+use Rattle.filter_context.specs.ContextModel.{ContextModel}
 use Rattle.odata_eval.specs.private.WalkAnswer.{AnswersKept, AnswersTruth}
 use Rattle.odata_meaning.specs.private.Decided.{IsDecided}
-use Rattle.odata_eval.specs.private.WalkClass.{walk_of_operator}
+use Rattle.filter_context.specs.WalkClass.{walk_of_operator}
 use Rattle.odata_eval.proofs.walking.KeptValues.{kept_value}
-use Rattle.odata_eval.proofs.walking.Operands.{tree_of_class}
-use Rattle.odata_eval.proofs.walking.Extents.{right_there, right_typed}
-use Rattle.odata_eval.proofs.walking.Spines.{first_faults, first_part, first_step, part_down, typed_part, walks_by}
+use Rattle.filter_context.proofs.Operands.{tree_of_class}
+use Rattle.filter_context.proofs.Extents.{right_there, right_typed}
+use Rattle.filter_context.proofs.Spines.{first_faults, first_part, first_step, part_down, typed_part, walks_by}
 use Rattle.odata_eval.proofs.walking.WalkSteps.{decided_answers, joined_answers, joined_faults}
 
 -- before so many indexes there are only `and`s

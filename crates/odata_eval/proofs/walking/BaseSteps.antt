@@ -18,14 +18,14 @@ use Rattle.odata_filter_operations.specs.LeftFirst.{After}
 use Rattle.odata_filter_operations.specs.Outcome.{Outcome, gives}
 use Rattle.odata_filter_operations.specs.DatumView.{answer_outcome, reading_at}
 use Rattle.odata_filter_operations.specs.Collections.{HasMembers}
-use Rattle.odata_eval.specs.private.Place.{HasKind, PartStands}
-use Rattle.odata_eval.specs.private.EvalContext.{EndsOnceHere, MeansHere, StandsHere, TypedHere}
-use Rattle.odata_eval.specs.private.ContextModel.{ContextModel}
+use Rattle.filter_context.specs.Place.{HasKind, PartStands}
+use Rattle.filter_context.specs.EvalContext.{EndsOnceHere, MeansHere, StandsHere, TypedHere}
+use Rattle.filter_context.specs.ContextModel.{ContextModel}
 use Rattle.odata_eval.specs.private.WalkAnswer.{AnswersDatum}
-use Rattle.odata_eval.proofs.walking.Children.{only_child}
-use Rattle.odata_eval.proofs.walking.Operands.{HasNone, no_number}
-use Rattle.odata_eval.proofs.walking.Parts.{by_kind, goes_there, some_reports}
-use Rattle.odata_eval.proofs.walking.Spines.{has_type}
+use Rattle.filter_context.proofs.Children.{only_child}
+use Rattle.filter_context.proofs.Operands.{HasNone, no_number}
+use Rattle.filter_context.proofs.Parts.{by_kind, goes_there, some_reports}
+use Rattle.filter_context.proofs.Spines.{has_type}
 use Rattle.odata_eval.proofs.walking.WalkValues.{value_has}
 
 -- a tree that asks a collection: where that stands, and what is made of it

@@ -21,16 +21,17 @@ use Rattle.odata_filter_operations.specs.Outcome.{Outcome, gives}
 use Rattle.odata_filter_operations.specs.FaultView.{fault_outcome}
 use Rattle.odata_filter_operations.specs.FunctionCalls.{Applies, AreArguments, IsArgument, MakesText}
 use Rattle.odata_filter_operations.specs.DatumView.{answer_outcome, reading_at}
-use Rattle.odata_eval.specs.private.Place.{HasKind, IsStopOf, PartStands}
-use Rattle.odata_eval.specs.private.EvalContext.{EndsOnceHere, MeansHere, StandsHere, TypedHere}
-use Rattle.odata_eval.specs.private.ContextModel.{ContextModel}
+use Rattle.filter_context.specs.Place.{HasKind, IsStopOf, PartStands}
+use Rattle.filter_context.specs.EvalContext.{EndsOnceHere, MeansHere, StandsHere, TypedHere}
+use Rattle.filter_context.specs.ContextModel.{ContextModel}
 use Rattle.odata_filter_operations.specs.Reports.{Reports}
-use Rattle.odata_eval.specs.private.WalkAnswer.{AllAnswered, AnswersAtPlace, AnswersDatum}
+use Rattle.odata_eval.specs.private.WalkAnswer.{AllAnswered, AnswersDatum}
+use Rattle.filter_context.specs.AnswersAtPlace.{AnswersAtPlace}
 use Rattle.odata_meaning.proofs.meaning.CallEnds.{HaveTypes, applies_of}
-use Rattle.odata_eval.proofs.walking.Operands.{no_number}
-use Rattle.odata_eval.proofs.walking.Parts.{by_kind, reports_there}
-use Rattle.odata_eval.proofs.walking.Extents.{all_further, further, stops_here, stops_there}
-use Rattle.odata_eval.proofs.walking.Spines.{MeanAll, StandsAll, TypedAll, child_takes, fault_stays, first_child, some_taken}
+use Rattle.filter_context.proofs.Operands.{no_number}
+use Rattle.filter_context.proofs.Parts.{by_kind, reports_there}
+use Rattle.filter_context.proofs.Extents.{all_further, further, stops_here, stops_there}
+use Rattle.filter_context.proofs.Spines.{MeanAll, StandsAll, TypedAll, child_takes, fault_stays, first_child, some_taken}
 use Rattle.odata_eval.proofs.walking.WalkValues.{value_has}
 
 -- the kinds of arguments are plain, so they are read alike everywhere

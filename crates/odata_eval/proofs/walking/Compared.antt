@@ -20,13 +20,14 @@ use Rattle.odata_filter_operations.specs.CalculationGives.{number_val}
 use Rattle.odata_filter_operations.specs.Outcome.{gives}
 use Rattle.odata_filter_operations.specs.TruthGives.{truth_val}
 use Rattle.odata_filter_operations.specs.DatumView.{reading_at}
-use Rattle.odata_eval.specs.private.Place.{HasOperator, IsRightOf, PartStands}
-use Rattle.odata_eval.specs.private.EvalContext.{EndsOnceHere}
-use Rattle.odata_eval.specs.private.ContextModel.{ContextModel}
-use Rattle.odata_eval.specs.private.WalkAnswer.{AnswersAtPlace, AnswersDatum, AnswersKept, AnswersNumber, AnswersTruth}
+use Rattle.filter_context.specs.Place.{HasOperator, IsRightOf, PartStands}
+use Rattle.filter_context.specs.EvalContext.{EndsOnceHere}
+use Rattle.filter_context.specs.ContextModel.{ContextModel}
+use Rattle.odata_eval.specs.private.WalkAnswer.{AnswersDatum, AnswersKept, AnswersNumber, AnswersTruth}
+use Rattle.filter_context.specs.AnswersAtPlace.{AnswersAtPlace}
 use Rattle.odata_meaning.proofs.meaning.Kinds.{comparable_values}
 use Rattle.odata_eval.proofs.walking.KeptValues.{at_contents, at_types}
-use Rattle.odata_eval.proofs.walking.Parts.{some_there}
+use Rattle.filter_context.proofs.Parts.{some_there}
 use Rattle.odata_eval.proofs.walking.WalkSteps.{of_sides, sides_there}
 use Rattle.odata_eval.proofs.walking.WalkValues.{made_value}
 

@@ -40,13 +40,13 @@ use Rattle.odata_meaning.specs.Means.{BinaryGives, Means}
 use Rattle.odata_meaning.specs.NameGives.{FieldGives}
 use Rattle.odata_meaning.specs.OperatorGives.{SidesGive}
 use Rattle.odata_eval.specs.private.ValueTests.{AndsAbove, AreAllBut, Decides, GoesUp, IsFalseAt, IsNoNumber, IsTermSieve, IsTrueAt, IsValue, LeavesNoFault, StandsFor}
-use Rattle.odata_eval.specs.private.Place.{HasKind, HasOperator, IsRightOf}
-use Rattle.odata_eval.specs.private.EvalContext.{NumberHere}
-use Rattle.odata_eval.specs.private.ContextModel.{ContextModel, context_in}
+use Rattle.filter_context.specs.Place.{HasKind, HasOperator, IsRightOf}
+use Rattle.filter_context.specs.EvalContext.{NumberHere}
+use Rattle.filter_context.specs.ContextModel.{ContextModel, context_in}
 use Rattle.odata_eval.proofs.walking.Leaves.{literal_own, number_held}
-use Rattle.odata_eval.proofs.walking.Operands.{ResolvedHere, no_number}
-use Rattle.odata_eval.proofs.walking.Parts.{by_kind, found_there, kind_there}
-use Rattle.odata_eval.proofs.walking.Extents.{right_beside, stops_there}
+use Rattle.filter_context.proofs.Operands.{ResolvedHere, no_number}
+use Rattle.filter_context.proofs.Parts.{by_kind, found_there, kind_there}
+use Rattle.filter_context.proofs.Extents.{right_beside, stops_there}
 
 -- ---- outcomes of operands and of what takes them
 

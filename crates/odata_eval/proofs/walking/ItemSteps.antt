@@ -34,11 +34,12 @@ use Rattle.odata_filter_operations.specs.Outcome.{Outcome, divides_by_zero, give
 use Rattle.odata_filter_operations.specs.QuantifierGives.{Passes, QuantifierGives}
 use Rattle.odata_filter_operations.specs.FaultView.{fault_outcome}
 use Rattle.odata_filter_operations.specs.DatumView.{reading_at}
-use Rattle.odata_eval.specs.private.Place.{HasKind, IsRightOf, IsStopOf, OperandStands, PartStands}
-use Rattle.odata_eval.specs.private.EvalContext.{EndsOnceHere, MeansHere, OperandHere, StandsHere, TypedHere}
-use Rattle.odata_eval.specs.private.ContextModel.{ContextModel, environment_of}
+use Rattle.filter_context.specs.Place.{HasKind, IsRightOf, IsStopOf, OperandStands, PartStands}
+use Rattle.filter_context.specs.EvalContext.{EndsOnceHere, MeansHere, OperandHere, StandsHere, TypedHere}
+use Rattle.filter_context.specs.ContextModel.{ContextModel, environment_of}
 use Rattle.odata_filter_operations.specs.Reports.{Reports}
-use Rattle.odata_eval.specs.private.WalkAnswer.{AnswersAtPlace, AnswersDatum}
+use Rattle.odata_eval.specs.private.WalkAnswer.{AnswersDatum}
+use Rattle.filter_context.specs.AnswersAtPlace.{AnswersAtPlace}
 use Rattle.odata_meaning.proofs.meaning.Kinds.{comparable_values}
 use Rattle.odata_meaning.proofs.meaning.Reads.{number_comparable, read_has}
 use Rattle.odata_eval.proofs.walking.CallSteps.{behind_first}
@@ -48,10 +49,10 @@ use Rattle.odata_filter_operations.specs.TextCosts.{comparison_cost}
 use Rattle.odata_eval.specs.private.Spending.{CostsHere}
 use Rattle.odata_eval.proofs.spending.Items.{ComparedHere, ItemDue, ItemsCostHere, ItemsDue, SideItem, due_first, item_due, one_compared}
 use Rattle.odata_eval.proofs.spending.Splits.{follows}
-use Rattle.odata_eval.proofs.walking.Parts.{by_kind}
-use Rattle.odata_eval.proofs.walking.Operands.{AloneHere, HasNone, resolved_here, resolved_operand, resolved_reports, no_number}
-use Rattle.odata_eval.proofs.walking.Extents.{further, items_further_in, operand_further, operand_stops_there, stops_here, stops_there}
-use Rattle.odata_eval.proofs.walking.Spines.{TypedAll, child_takes, first_child, has_type}
+use Rattle.filter_context.proofs.Parts.{by_kind}
+use Rattle.filter_context.proofs.Operands.{AloneHere, HasNone, resolved_here, resolved_operand, resolved_reports, no_number}
+use Rattle.filter_context.proofs.Extents.{further, items_further_in, operand_further, operand_stops_there, stops_here, stops_there}
+use Rattle.filter_context.proofs.Spines.{TypedAll, child_takes, first_child, has_type}
 use Rattle.odata_eval.proofs.walking.WalkValues.{value_has}
 
 -- the first index passes, and so do the later ones

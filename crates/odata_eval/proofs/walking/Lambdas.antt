@@ -28,20 +28,20 @@ use Rattle.odata_meaning.specs.OneByOne.{MembersGo}
 use Rattle.odata_filter_operations.specs.Outcome.{Outcome, gives}
 use Rattle.odata_filter_operations.specs.TruthGives.{truth_val}
 use Rattle.odata_filter_operations.specs.declared.eval_fault.EvalFault.{EvalFault}
-use Rattle.odata_eval.specs.declared.frames.RangeVariable.{RangeVariable}
+use Rattle.filter_context.specs.declared.frames.RangeVariable.{RangeVariable}
 use Rattle.odata_filter_operations.specs.DatumView.{answer_outcome, reading_at}
 use Rattle.odata_eval.specs.private.Lambda.{AnswersMembers, BodyIsThere, BodyMeans, IsOverMembers, IsVariableOf, Suits, body_scope, type_of_variable, vals_of}
-use Rattle.odata_eval.specs.private.Place.{HasKind, IsRightOf, PartStands}
-use Rattle.odata_eval.specs.private.EvalContext.{EndsOnceHere, MeansHere, StandsHere, TypedHere}
-use Rattle.odata_eval.specs.private.ContextModel.{ContextModel, environment_of}
+use Rattle.filter_context.specs.Place.{HasKind, IsRightOf, PartStands}
+use Rattle.filter_context.specs.EvalContext.{EndsOnceHere, MeansHere, StandsHere, TypedHere}
+use Rattle.filter_context.specs.ContextModel.{ContextModel, environment_of}
 use Rattle.odata_filter_operations.specs.Reports.{Reports}
 use Rattle.odata_eval.specs.private.WalkAnswer.{AnswersDatum, AnswersTruth}
 use Rattle.odata_meaning.proofs.meaning.OneByOne.{members_one_by_one}
-use Rattle.odata_eval.proofs.walking.Children.{body_stands}
-use Rattle.odata_eval.proofs.walking.Operands.{no_number}
-use Rattle.odata_eval.proofs.walking.Parts.{by_kind, found_there, some_there, reports_there, there_found}
-use Rattle.odata_eval.proofs.walking.Extents.{further, stops_here, stops_there}
-use Rattle.odata_eval.proofs.walking.Spines.{child_takes, second_child}
+use Rattle.filter_context.proofs.Children.{body_stands}
+use Rattle.filter_context.proofs.Operands.{no_number}
+use Rattle.filter_context.proofs.Parts.{by_kind, found_there, some_there, reports_there, there_found}
+use Rattle.filter_context.proofs.Extents.{further, stops_here, stops_there}
+use Rattle.filter_context.proofs.Spines.{child_takes, second_child}
 use Rattle.odata_eval.proofs.walking.WalkValues.{value_has}
 
 -- ---- collections of the code

@@ -16,21 +16,21 @@ use Rattle.odata_checked_filter.specs.Stands.{HasOwnValue, IsValueOf}
 use Rattle.odata_meaning.specs.Environment.{scope_of, variable_value}
 use Rattle.odata_meaning.specs.NameGives.{FoundGives}
 use Rattle.odata_filter_operations.specs.Outcome.{Outcome, gives}
-use Rattle.odata_eval.specs.private.Frames.{StandsAtLevel, names_of}
-use Rattle.odata_eval.specs.private.Place.{HasKind, IsRightOf, IsStopOf, OperandStands}
-use Rattle.odata_eval.specs.private.EvalContext.{HoldsAt, MeansHere, NumberHere, StandsHere, TypedHere}
-use Rattle.odata_eval.specs.private.ContextModel.{ContextModel, environment_of}
+use Rattle.filter_context.specs.Frames.{StandsAtLevel, names_of}
+use Rattle.filter_context.specs.Place.{HasKind, IsRightOf, IsStopOf, OperandStands}
+use Rattle.filter_context.specs.EvalContext.{HoldsAt, MeansHere, NumberHere, StandsHere, TypedHere}
+use Rattle.filter_context.specs.ContextModel.{ContextModel, environment_of}
 use Rattle.odata_eval.specs.private.WalkAnswer.{AnswersKept}
 use Rattle.odata_signatures.specs.Functions.{IsNamed, row_of}
 use Rattle.odata_signatures.specs.declared.function.Function.{Function}
 use Rattle.odata_signatures.specs.CallTyped.{CallTyped}
 use Rattle.odata_filter_operations.specs.CallGives.{CallGives}
-use Rattle.odata_eval.proofs.walking.Extents.{stops_here}
-use Rattle.odata_eval.proofs.walking.Operands.{NumberThere, no_number, number_there, one_kind, tree_of_kind}
-use Rattle.odata_eval.proofs.walking.Parts.{by_kind, found_there, inside, kind_there}
-use Rattle.odata_eval.proofs.walking.Spines.{MeanAll, TypedAll, only_now}
+use Rattle.filter_context.proofs.Extents.{stops_here}
+use Rattle.filter_context.proofs.Operands.{NumberThere, no_number, number_there, one_kind, tree_of_kind}
+use Rattle.filter_context.proofs.Parts.{by_kind, found_there, inside, kind_there}
+use Rattle.filter_context.proofs.Spines.{MeanAll, TypedAll, only_now}
 use Rattle.odata_eval.proofs.walking.SlotValue.{named_within, slot_value}
-use Rattle.odata_eval.proofs.walking.Variables.{level_below, unbound, variable_gives}
+use Rattle.filter_context.proofs.Variables.{level_below, unbound, variable_gives}
 
 -- a value without parts stands for the same at each type
 pub plain_is : (slots : Slots) (type : ExprType) (value : Value) (v : Val) → plain_val value ≡ Some v → val_of value slots.properties type ≡ v

@@ -20,15 +20,15 @@ use Rattle.odata_meaning.specs.NameGives.{StepGives}
 use Rattle.odata_meaning.specs.Environment.{scope_of}
 use Rattle.odata_filter_operations.specs.Outcome.{gives}
 use Rattle.odata_filter_operations.specs.DatumView.{HasSlot, IsDatumOf, IsStepOf, reading_at}
-use Rattle.odata_eval.specs.private.Place.{HasKind, PartStands}
-use Rattle.odata_eval.specs.private.EvalContext.{EndsOnceHere, MeansHere, TypedHere}
-use Rattle.odata_eval.specs.private.ContextModel.{ContextModel, environment_of}
+use Rattle.filter_context.specs.Place.{HasKind, PartStands}
+use Rattle.filter_context.specs.EvalContext.{EndsOnceHere, MeansHere, TypedHere}
+use Rattle.filter_context.specs.ContextModel.{ContextModel, environment_of}
 use Rattle.odata_eval.specs.private.WalkAnswer.{AnswersDatum, AnswersKept}
 use Rattle.odata_meaning.proofs.meaning.Progress.{field_gives}
 use Rattle.odata_meaning.proofs.meaning.TypeValues.{held_present}
-use Rattle.odata_eval.proofs.walking.Children.{only_child}
-use Rattle.odata_eval.proofs.walking.Operands.{no_number}
-use Rattle.odata_eval.proofs.walking.Parts.{by_kind, kind_there, some_there}
+use Rattle.filter_context.proofs.Children.{only_child}
+use Rattle.filter_context.proofs.Operands.{no_number}
+use Rattle.filter_context.proofs.Parts.{by_kind, kind_there, some_there}
 use Rattle.odata_eval.proofs.walking.SlotValue.{field_at, found_slot, named_within, slot_beside, slot_within}
 use Rattle.odata_eval.proofs.walking.WalkValues.{value_has}
 

@@ -17,15 +17,16 @@ use Rattle.odata_filter_operations.specs.QuantifierGives.{IsUndecided, undecided
 use Rattle.odata_filter_operations.specs.TruthGives.{truth_val}
 use Rattle.odata_filter_operations.specs.FaultView.{fault_outcome}
 use Rattle.odata_filter_operations.specs.declared.eval_fault.EvalFault.{EvalFault}
-use Rattle.odata_eval.specs.declared.frames.RangeVariable.{RangeVariable}
-use Rattle.odata_eval.specs.private.Frames.{frame_of}
+use Rattle.filter_context.specs.declared.frames.RangeVariable.{RangeVariable}
+use Rattle.filter_context.specs.Frames.{frame_of}
 use Rattle.odata_eval.specs.private.Lambda.{AnswersMembers, BodyIsThere, BodyMeans, BodyStands, BodyTyped, type_of_variable, vals_of}
-use Rattle.odata_eval.specs.private.Place.{TruthStands}
-use Rattle.odata_eval.specs.private.ContextModel.{ContextModel, with_frame}
-use Rattle.odata_eval.specs.private.WalkAnswer.{AnswersAtPlace, AnswersTruth}
+use Rattle.filter_context.specs.Place.{TruthStands}
+use Rattle.filter_context.specs.ContextModel.{ContextModel, with_frame}
+use Rattle.odata_eval.specs.private.WalkAnswer.{AnswersTruth}
+use Rattle.filter_context.specs.AnswersAtPlace.{AnswersAtPlace}
 use Rattle.odata_meaning.proofs.meaning.OneByOne.{passes_on}
-use Rattle.odata_eval.proofs.walking.Parts.{reports_there}
-use Rattle.odata_eval.proofs.walking.Spines.{fault_stays}
+use Rattle.filter_context.proofs.Parts.{reports_there}
+use Rattle.filter_context.proofs.Spines.{fault_stays}
 
 -- ---- one value of the body
 

@@ -21,16 +21,17 @@ use Rattle.odata_filter_operations.specs.LeftFirst.{After}
 use Rattle.odata_filter_operations.specs.Outcome.{Outcome, gives}
 use Rattle.odata_filter_operations.specs.FaultView.{fault_outcome}
 use Rattle.odata_filter_operations.specs.DatumView.{reading_at}
-use Rattle.odata_eval.specs.private.Place.{HasKind, IsRightOf, OperandStands, PartStands}
-use Rattle.odata_eval.specs.private.EvalContext.{EndsOnceHere, MeansHere, StandsHere, TypedHere}
-use Rattle.odata_eval.specs.private.ContextModel.{ContextModel}
-use Rattle.odata_eval.specs.private.WalkAnswer.{AnswersAtPlace, AnswersDatum}
-use Rattle.odata_eval.proofs.walking.Children.{two_children}
+use Rattle.filter_context.specs.Place.{HasKind, IsRightOf, OperandStands, PartStands}
+use Rattle.filter_context.specs.EvalContext.{EndsOnceHere, MeansHere, StandsHere, TypedHere}
+use Rattle.filter_context.specs.ContextModel.{ContextModel}
+use Rattle.odata_eval.specs.private.WalkAnswer.{AnswersDatum}
+use Rattle.filter_context.specs.AnswersAtPlace.{AnswersAtPlace}
+use Rattle.filter_context.proofs.Children.{two_children}
 use Rattle.odata_meaning.proofs.meaning.Reads.{number_flags, read_has}
-use Rattle.odata_eval.proofs.walking.Operands.{ResolvedHere, HasNone, resolved_operand, fault_no_value, no_number, number_is}
-use Rattle.odata_eval.proofs.walking.Parts.{by_kind, reports_there}
-use Rattle.odata_eval.proofs.walking.Extents.{further, right_beside, stops_here, stops_there}
-use Rattle.odata_eval.proofs.walking.Spines.{child_takes, fault_stays, has_type, second_child}
+use Rattle.filter_context.proofs.Operands.{ResolvedHere, HasNone, resolved_operand, fault_no_value, no_number, number_is}
+use Rattle.filter_context.proofs.Parts.{by_kind, reports_there}
+use Rattle.filter_context.proofs.Extents.{further, right_beside, stops_here, stops_there}
+use Rattle.filter_context.proofs.Spines.{child_takes, fault_stays, has_type, second_child}
 use Rattle.odata_eval.proofs.walking.WalkValues.{value_has}
 use Rattle.odata_filter_operations.specs.Reports.{Reports}
 

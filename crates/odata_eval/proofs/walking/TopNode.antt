@@ -13,14 +13,14 @@ use Rattle.odata_filter_operations.specs.declared.eval_fault.EvalFault.{EvalFaul
 use Rattle.odata_meaning.specs.Environment.{Environment, scope_of}
 use Rattle.odata_meaning.specs.Means.{Means}
 use Rattle.odata_meaning.specs.MeansOn.{IsTheOutcome, MeansOn}
-use Rattle.odata_eval.specs.private.Frames.{Frame, environment_in}
+use Rattle.filter_context.specs.Frames.{Frame, environment_in}
 use Rattle.odata_filter_operations.specs.Outcome.{Outcome}
 use Rattle.odata_filter_operations.specs.TruthGives.{truth_val}
 use Rattle.odata_filter_operations.specs.FaultView.{fault_outcome}
 use Rattle.odata_filter_operations.specs.DatumView.{answer_outcome}
-use Rattle.odata_eval.specs.private.Place.{TruthStands}
-use Rattle.odata_eval.specs.private.EvalContext.{EndsOnceHere, MeansHere, StandsHere, TypedHere}
-use Rattle.odata_eval.specs.private.ContextModel.{ContextModel, environment_of, context_in}
+use Rattle.filter_context.specs.Place.{TruthStands}
+use Rattle.filter_context.specs.EvalContext.{EndsOnceHere, MeansHere, StandsHere, TypedHere}
+use Rattle.filter_context.specs.ContextModel.{ContextModel, environment_of, context_in}
 use Rattle.odata_filter_operations.specs.Reports.{Reports}
 use Rattle.odata_eval.specs.private.WalkAnswer.{AnswersTruth}
 

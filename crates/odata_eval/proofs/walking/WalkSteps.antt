@@ -31,22 +31,23 @@ use Rattle.odata_filter_operations.specs.TruthGives.{LogicalGives, JoinGives, jo
 use Rattle.odata_filter_operations.specs.FaultView.{fault_outcome}
 use Rattle.odata_filter_operations.specs.DatumView.{answer_outcome}
 use Rattle.odata_filter_operations.specs.Operators.{AreNumbers, IsOneNumber}
-use Rattle.odata_eval.specs.private.Place.{HasKind, IsRightOf, PartStands}
-use Rattle.odata_eval.specs.private.EvalContext.{EndsOnceHere, MeansHere, StandsHere, TypedHere}
-use Rattle.odata_eval.specs.private.ContextModel.{ContextModel, environment_of}
+use Rattle.filter_context.specs.Place.{HasKind, IsRightOf, PartStands}
+use Rattle.filter_context.specs.EvalContext.{EndsOnceHere, MeansHere, StandsHere, TypedHere}
+use Rattle.filter_context.specs.ContextModel.{ContextModel, environment_of}
 use Rattle.odata_filter_operations.specs.Reports.{Reports}
-use Rattle.odata_eval.specs.private.WalkAnswer.{AnswersAtPlace, AnswersNumber, AnswersTruth}
+use Rattle.odata_eval.specs.private.WalkAnswer.{AnswersNumber, AnswersTruth}
+use Rattle.filter_context.specs.AnswersAtPlace.{AnswersAtPlace}
 use Rattle.odata_meaning.specs.private.Decided.{IsDecided}
 use Rattle.odata_meaning.specs.private.LawsBelow.{Promotes}
 use Rattle.odata_meaning.proofs.meaning.Numbers.{calculated_values, negated_value}
 use Rattle.odata_meaning.specs.ReadGives.{GivesMember}
 use Rattle.odata_meaning.proofs.meaning.Reads.{equality_typed, number_comparable, read_has}
 use Rattle.odata_meaning.proofs.meaning.Progress.{decided_gives, join_gives, not_gives, undecided_goes}
-use Rattle.odata_eval.proofs.walking.Children.{only_child}
-use Rattle.odata_eval.proofs.walking.Operands.{ResolvedHere, HasNone, equality_boolean, no_number, not_both, number_is}
-use Rattle.odata_eval.proofs.walking.Parts.{by_kind, goes_there, some_reports, reports_there, type_there}
-use Rattle.odata_eval.proofs.walking.Extents.{right_stands}
-use Rattle.odata_eval.proofs.walking.Spines.{child_takes, fault_stays, second_child, types_alone}
+use Rattle.filter_context.proofs.Children.{only_child}
+use Rattle.filter_context.proofs.Operands.{ResolvedHere, HasNone, equality_boolean, no_number, not_both, number_is}
+use Rattle.filter_context.proofs.Parts.{by_kind, goes_there, some_reports, reports_there, type_there}
+use Rattle.filter_context.proofs.Extents.{right_stands}
+use Rattle.filter_context.proofs.Spines.{child_takes, fault_stays, second_child, types_alone}
 use Rattle.odata_eval.proofs.walking.Readings.{numbers_anywhere, one_number_anywhere}
 use Rattle.odata_eval.proofs.walking.WalkValues.{value_has}
 

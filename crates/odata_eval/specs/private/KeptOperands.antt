@@ -7,10 +7,10 @@ use Rattle.odata_checked_filter.specs.FlatTree.{FlatTree}
 use Rattle.odata_checked_filter.specs.declared.checked_node.NodeKind.{NodeKind}
 use Rattle.odata_filter_operations.specs.FunctionGives.{FunctionGives}
 use Rattle.odata_filter_operations.specs.Outcome.{Outcome, gives}
-use Rattle.odata_eval.specs.declared.walk_operand.WalkClass.{WalkClass}
-use Rattle.odata_eval.specs.private.Place.{HasKind, IsClassAt}
-use Rattle.odata_eval.specs.private.ContextModel.{ContextModel}
-use Rattle.odata_eval.specs.private.WalkAnswer.{AnswersAtPlace}
+use Rattle.filter_context.specs.declared.walk_class.WalkClass.{WalkClass}
+use Rattle.filter_context.specs.Place.{HasKind, IsClassAt}
+use Rattle.filter_context.specs.ContextModel.{ContextModel}
+use Rattle.filter_context.specs.AnswersAtPlace.{AnswersAtPlace}
 
 -- a leaf stands there, or a step from one
 abbrev pub IsPathAt : FlatTree → ℕ → Type 0

@@ -22,9 +22,9 @@ use Rattle.odata_meaning.specs.OneByOne.{MembersGo}
 use Rattle.odata_filter_operations.specs.Outcome.{Outcome}
 use Rattle.odata_filter_operations.specs.TruthGives.{truth_val}
 use Rattle.odata_filter_operations.specs.declared.eval_fault.EvalFault.{EvalFault}
-use Rattle.odata_eval.specs.declared.frames.RangeVariable.{RangeVariable}
+use Rattle.filter_context.specs.declared.frames.RangeVariable.{RangeVariable}
 use Rattle.odata_filter_operations.specs.DatumView.{answer_outcome}
-use Rattle.odata_eval.specs.private.ContextModel.{ContextModel, environment_of}
+use Rattle.filter_context.specs.ContextModel.{ContextModel, environment_of}
 use Rattle.odata_filter_operations.specs.Reports.{Reports}
 
 -- the base there has members of some type

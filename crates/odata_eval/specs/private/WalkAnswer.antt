@@ -1,36 +1,22 @@
 -- For private clauses: what the walk of a filter's list answers.
 use Rattle.std.specs.Prelude.{◌≡◌, ℕ, ℤ, List, [], ◌∷◌, Option, Some, Result, Ok, Bool}
-use Rattle.edm_values.specs.Val.{member}
 use Rattle.edm_values.specs.declared.datum.Datum.{Datum}
 use Rattle.edm_values.specs.declared.value.Value.{Value}
-use Rattle.csdl_schema.specs.ExprType.{ExprType}
 use Rattle.csdl_schema.specs.SchemaModel.{slots_of}
 use Rattle.edm_entities.specs.Row.{val_of}
 use Rattle.odata_functions.specs.DatumVal.{datum_val}
-use Rattle.odata_syntax.specs.Tree.{Tree}
-use Rattle.odata_checked_filter.specs.Calls.{TakesMemory}
 use Rattle.odata_filter_operations.specs.declared.eval_fault.EvalFault.{EvalFault}
 use Rattle.odata_eval.specs.declared.walk_operand.WalkOperand.{WalkOperand}
-use Rattle.odata_eval.specs.declared.walk_operand.WalkClass.{WalkClass}
+use Rattle.filter_context.specs.declared.walk_class.WalkClass.{WalkClass}
 use Rattle.odata_filter_operations.specs.CalculationGives.{number_val}
-use Rattle.odata_filter_operations.specs.Outcome.{Outcome, gives}
+use Rattle.odata_filter_operations.specs.Outcome.{gives}
 use Rattle.odata_filter_operations.specs.TruthGives.{truth_val}
 use Rattle.odata_filter_operations.specs.DatumView.{answer_outcome, reading_at}
-use Rattle.odata_filter_operations.specs.Reports.{Reports}
-use Rattle.odata_eval.specs.private.Place.{IsClassAt, IsStopOf}
-use Rattle.odata_eval.specs.private.EvalContext.{MeansHere, NumberHere, StandsHere, TypedHere}
-use Rattle.odata_eval.specs.private.ContextModel.{ContextModel}
+use Rattle.filter_context.specs.Place.{IsClassAt, IsStopOf}
+use Rattle.filter_context.specs.AnswersAtPlace.{AnswersAtPlace}
+use Rattle.filter_context.specs.ContextModel.{ContextModel}
 
--- it is an outcome of what stands at the index, by the type of that; where a literal has a number, it is that number
-pub record AnswersAtPlace (context : ContextModel) (place : ℕ) (reported : ExprType → Option Outcome) : Type 0 where
-  pub of_tree :
-      (stop : ℕ) (tree : Tree) (type : ExprType) → StandsHere context place stop tree → TypedHere context tree type
-      → Reports (TakesMemory tree) (MeansHere context tree) (reported type)
-  pub of_number :
-      (number : ℤ) (stop : ℕ) (tree : Tree) (type : ExprType) → NumberHere context number place stop tree
-      → reported type ≡ Some (gives (member number))
-
--- so is an answer that may be of any type
+-- an answer that may be of any type is an outcome of what stands at the index
 abbrev pub AnswersDatum : ContextModel → ℕ → Result Datum EvalFault → Type 0
 AnswersDatum context place answer =
     AnswersAtPlace context place

@@ -1,7 +1,7 @@
 -- The tree of a node that is none of a literal, of a form by the node's kind.
 use Rattle.sql_outcomes.proofs.Common.{◌≡◌, ℕ, Some, slice_get, node, Scope, Filter, IsFilter, CheckedNode, NodeKind, StandsIn, tree_found}
-use Rattle.odata_eval.proofs.walking.Operands.{IsOther}
-use Rattle.odata_eval.proofs.walking.Parts.{CasesOf}
+use Rattle.filter_context.proofs.Operands.{IsOther}
+use Rattle.filter_context.proofs.Parts.{CasesOf}
 use Rattle.odata_ranges.proofs.Forms.{by_kind}
 
 pub by_node : (filter : Filter) → IsFilter filter → (place : ℕ) (found : CheckedNode) → slice_get filter.list.nodes place ≡ Some found → (kind : NodeKind) → IsOther kind → found.kind ≡ kind

@@ -1,6 +1,6 @@
 -- Nodes that are truth values, by their kinds.
 use Rattle.sql_outcomes.proofs.Common.{◌≡◌, ◌≢◌, ◌∙◌, ℕ, List, true, false, Some, refl, sym, ap, subst, slice_get, PrimitiveType, primitive, single, structured, SchemaModel, slots_of, type_name_at, Filter, IsFilter, Stands, CheckedNode, NodeKind, there_found, HasKind, Scope, Typed, negation_numeric, operator_numeric, Range, IsNumeric, row_of, expr_type, EdmType, ValueType, Function, Tree, BinaryOperator, LogicalOperator, LiteralKind, Quantifier, SqlType, Kind, ComparesNothing, kind_of_type, IsQuietKind, AreRanges, IsCarriedKind, IsOtherKind, IsTruthKind, Question, tree_found, by_kind, IsSomeAnd, IsTruthAt, some_there, found_there}
-use Rattle.odata_eval.proofs.walking.Spines.{only_now}
+use Rattle.filter_context.proofs.Spines.{only_now}
 use Rattle.sql_outcomes.proofs.nodes.BinaryPlaces.{top_node}
 
 -- ---- types that are not Boolean

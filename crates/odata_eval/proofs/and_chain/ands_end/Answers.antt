@@ -1,8 +1,8 @@
 use Rattle.std.proofs.Common.{◌<◌, arith, length, rules}
 use Rattle.odata_signatures.specs.ExprTypes.{IsBooleanOrNull}
 use Rattle.odata_eval.proofs.walking.AndChains.{ands_further, next_stands}
-use Rattle.odata_eval.proofs.walking.Parts.{part_inside}
-use Rattle.odata_eval.proofs.walking.Spines.{typed_part}
+use Rattle.filter_context.proofs.Parts.{part_inside}
+use Rattle.filter_context.proofs.Spines.{typed_part}
 use Rattle.odata_eval.proofs.and_chain.ands_end.Goals as goal
 
 pub overflow_add-place : goal.overflow_add-place

@@ -1,4 +1,4 @@
-use Rattle.odata_eval.proofs.walking.Parts.{part_inside}
+use Rattle.filter_context.proofs.Parts.{part_inside}
 use Rattle.odata_eval.proofs.and_chain.is_and.Goals as goal
 
 pub node-requires : goal.node-requires

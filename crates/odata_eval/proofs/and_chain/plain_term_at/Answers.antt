@@ -3,8 +3,8 @@ use Rattle.odata_checked_filter.specs.declared.checked_node.CheckedNode.{Checked
 use Rattle.odata_checked_filter.specs.declared.checked_node.NodeKind.{NodeKind}
 use Rattle.odata_syntax.specs.declared.binary_operator.BinaryOperator.{BinaryOperator}
 use Rattle.odata_signatures.specs.ExprTypes.{IsBooleanOrNull}
-use Rattle.odata_eval.proofs.walking.Parts.{part_inside, there_found}
-use Rattle.odata_eval.proofs.walking.Spines.{typed_part}
+use Rattle.filter_context.proofs.Parts.{part_inside, there_found}
+use Rattle.filter_context.proofs.Spines.{typed_part}
 use Rattle.odata_eval.proofs.and_chain.plain_term_at.Goals as goal
 
 pub returns-in-Some : goal.returns-in-Some

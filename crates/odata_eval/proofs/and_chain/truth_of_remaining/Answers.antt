@@ -5,7 +5,7 @@ use Rattle.odata_filter_operations.specs.TruthGives.{truth_val}
 use Rattle.odata_eval.specs.private.WalkAnswer.{AnswersTruth}
 use Rattle.odata_meaning.specs.private.Decided.{IsDecided}
 use Rattle.odata_eval.proofs.walking.AndChains.{decided_up, false_answers, fault_answers, fault_up, null_answers, term_stands, term_there, reported_not, true_answers}
-use Rattle.odata_eval.proofs.walking.Spines.{at_top}
+use Rattle.filter_context.proofs.Spines.{at_top}
 use Rattle.odata_eval.proofs.and_chain.truth_of_remaining.Goals as goal
 
 pub returns-in_err-left : goal.returns-in_err-left

@@ -1,13 +1,13 @@
 use Rattle.std.proofs.Common.{◌≡◌, ℕ, ◌<◌, ◌≤◌, ◌+◌, ◌-◌, Ok, arith, length, rules, subst}
 use Rattle.odata_syntax.specs.declared.binary_operator.BinaryOperator.{BinaryOperator}
-use Rattle.odata_eval.specs.declared.walk_operand.WalkClass.{WalkClass}
-use Rattle.odata_eval.specs.private.Place.{IsClassAt, PartStands}
+use Rattle.filter_context.specs.declared.walk_class.WalkClass.{WalkClass}
+use Rattle.filter_context.specs.Place.{IsClassAt, PartStands}
 use Rattle.odata_eval.specs.private.WalkAnswer.{AnswersNumber}
 use Rattle.odata_eval.proofs.walking.AndChains.{left_side}
 use Rattle.odata_eval.proofs.walking.Compared.{numbers_compared}
-use Rattle.odata_eval.proofs.walking.Extents.{right_part, right_there}
-use Rattle.odata_eval.proofs.walking.Operands.{operand_inside, tree_of_class}
-use Rattle.odata_eval.proofs.walking.Spines.{at_top, part_down, with_first}
+use Rattle.filter_context.proofs.Extents.{right_part, right_there}
+use Rattle.filter_context.proofs.Operands.{operand_inside, tree_of_class}
+use Rattle.filter_context.proofs.Spines.{at_top, part_down, with_first}
 use Rattle.odata_eval.proofs.kept_arithmetic.arithmetic_compared_at.Goals as goal
 
 pub right_of-right_place-requires : goal.right_of-right_place-requires

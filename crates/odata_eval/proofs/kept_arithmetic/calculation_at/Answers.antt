@@ -5,8 +5,8 @@ use Rattle.odata_filter_operations.specs.declared.eval_fault.EvalFault.{EvalFaul
 use Rattle.odata_syntax.specs.declared.binary_operator.BinaryOperator.{BinaryOperator}
 use Rattle.odata_eval.specs.private.WalkAnswer.{AnswersNumber}
 use Rattle.odata_meaning.specs.private.LawsBelow.{Promotes}
-use Rattle.odata_eval.proofs.walking.Extents.{right_part, right_there}
-use Rattle.odata_eval.proofs.walking.Parts.{part_inside, there_found}
+use Rattle.filter_context.proofs.Extents.{right_part, right_there}
+use Rattle.filter_context.proofs.Parts.{part_inside, there_found}
 use Rattle.odata_eval.proofs.walking.WalkSteps.{calculation_answers, numbers_there}
 use Rattle.odata_eval.proofs.kept_arithmetic.calculation_at.Goals as goal
 

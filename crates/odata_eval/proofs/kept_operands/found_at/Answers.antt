@@ -1,11 +1,11 @@
 use Rattle.std.proofs.Common.{◌≡◌, refl, slice_get}
 use Rattle.odata_checked_filter.specs.declared.checked_node.CheckedNode.{CheckedNode}
 use Rattle.odata_checked_filter.specs.declared.checked_node.NodeKind.{NodeKind}
-use Rattle.odata_eval.specs.declared.walk_operand.WalkClass.{WalkClass}
+use Rattle.filter_context.specs.declared.walk_class.WalkClass.{WalkClass}
 use Rattle.odata_eval.proofs.walking.Leaves.{variable_answers, variable_within}
-use Rattle.odata_eval.proofs.walking.Parts.{there_found}
-use Rattle.odata_eval.proofs.walking.Spines.{kind_walks}
-use Rattle.odata_eval.proofs.walking.Operands.{operand_inside}
+use Rattle.filter_context.proofs.Parts.{there_found}
+use Rattle.filter_context.proofs.Spines.{kind_walks}
+use Rattle.filter_context.proofs.Operands.{operand_inside}
 use Rattle.odata_eval.proofs.kept_operands.found_at.Goals as goal
 
 pub node-requires : goal.node-requires

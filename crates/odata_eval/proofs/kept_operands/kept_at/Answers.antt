@@ -1,8 +1,8 @@
 use Rattle.std.proofs.Common.{◌≡◌, inl, inr, slice_get}
 use Rattle.odata_checked_filter.specs.declared.checked_node.CheckedNode.{CheckedNode}
 use Rattle.odata_checked_filter.specs.declared.checked_node.NodeKind.{NodeKind}
-use Rattle.odata_eval.proofs.walking.Parts.{some_weaker, there_found}
-use Rattle.odata_eval.proofs.walking.Operands.{operand_inside, tree_of_kind}
+use Rattle.filter_context.proofs.Parts.{some_weaker, there_found}
+use Rattle.filter_context.proofs.Operands.{operand_inside, tree_of_kind}
 use Rattle.odata_eval.proofs.kept_operands.kept_at.Goals as goal
 
 pub node-requires : goal.node-requires

@@ -3,8 +3,8 @@ use Rattle.odata_checked_filter.specs.declared.checked_node.CheckedNode.{Checked
 use Rattle.odata_checked_filter.specs.declared.checked_node.NodeKind.{NodeKind}
 use Rattle.odata_syntax.specs.declared.binary_operator.BinaryOperator.{BinaryOperator}
 use Rattle.odata_eval.proofs.walking.AndChains.{left_side}
-use Rattle.odata_eval.proofs.walking.Parts.{part_inside, there_found}
-use Rattle.odata_eval.proofs.walking.Operands.{operand_inside}
+use Rattle.filter_context.proofs.Parts.{part_inside, there_found}
+use Rattle.filter_context.proofs.Operands.{operand_inside}
 use Rattle.odata_eval.proofs.kept_operands.kept_compared_at.Goals as goal
 
 pub overflow_add-place : goal.overflow_add-place

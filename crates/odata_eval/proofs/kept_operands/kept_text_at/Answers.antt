@@ -1,7 +1,7 @@
 use Rattle.std.proofs.Common.{subst, sym}
 use Rattle.odata_eval.specs.private.KeptOperands.{AnswersText}
 use Rattle.odata_eval.proofs.walking.TextArguments.{kept_text}
-use Rattle.odata_eval.proofs.walking.Operands.{tree_operand}
+use Rattle.filter_context.proofs.Operands.{tree_operand}
 use Rattle.odata_eval.proofs.kept_operands.kept_text_at.Goals as goal
 
 pub kept_at-requires : goal.kept_at-requires

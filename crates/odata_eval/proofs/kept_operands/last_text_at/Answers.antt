@@ -1,5 +1,5 @@
 use Rattle.std.proofs.Common.{◌<◌, length, rules, ◌+◌}
-use Rattle.odata_eval.proofs.walking.Parts.{part_inside, some_weaker}
+use Rattle.filter_context.proofs.Parts.{part_inside, some_weaker}
 use Rattle.odata_eval.proofs.walking.TextArguments.{first_stands, last_text, second_stands}
 use Rattle.odata_eval.proofs.kept_operands.last_text_at.Goals as goal
 

@@ -5,9 +5,9 @@ use Rattle.odata_signatures.specs.declared.function.Function.{Function}
 use Rattle.odata_filter_operations.specs.FunctionGives.{FunctionGives}
 use Rattle.odata_filter_operations.specs.Outcome.{gives}
 use Rattle.odata_checked_filter.specs.declared.checked_node.NodeKind.{NodeKind}
-use Rattle.odata_eval.specs.declared.walk_operand.WalkClass.{WalkClass}
-use Rattle.odata_eval.proofs.walking.Spines.{first_part, kind_walks}
-use Rattle.odata_eval.proofs.walking.Parts.{part_inside}
+use Rattle.filter_context.specs.declared.walk_class.WalkClass.{WalkClass}
+use Rattle.filter_context.proofs.Spines.{first_part, kind_walks}
+use Rattle.filter_context.proofs.Parts.{part_inside}
 use Rattle.odata_eval.proofs.kept_operands.lower_start_at.Goals as goal
 
 pub overflow_add-place : goal.overflow_add-place

@@ -2,12 +2,12 @@ use Rattle.std.proofs.Common.{◌≡◌, ◌∷◌, [], refl, slice_get, subst, 
 use Rattle.edm_values.specs.Val.{text}
 use Rattle.odata_checked_filter.specs.declared.checked_node.CheckedNode.{CheckedNode}
 use Rattle.odata_checked_filter.specs.declared.checked_node.NodeKind.{NodeKind}
-use Rattle.odata_eval.proofs.walking.Operands.{operand_inside, tree_of_kind}
+use Rattle.filter_context.proofs.Operands.{operand_inside, tree_of_kind}
 use Rattle.odata_filter_operations.specs.FunctionGives.{FunctionGives}
 use Rattle.odata_filter_operations.specs.Outcome.{gives}
 use Rattle.odata_functions.specs.LowerCase.{in_lower_case}
 use Rattle.odata_signatures.specs.declared.function.Function.{Function}
-use Rattle.odata_eval.proofs.walking.Parts.{some_weaker, there_found}
+use Rattle.filter_context.proofs.Parts.{some_weaker, there_found}
 use Rattle.odata_eval.proofs.kept_operands.lowered_text_at.Goals as goal
 
 pub node-requires : goal.node-requires

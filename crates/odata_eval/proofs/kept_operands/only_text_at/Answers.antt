@@ -1,5 +1,5 @@
 use Rattle.std.proofs.Common.{◌<◌, length, rules, ◌+◌}
-use Rattle.odata_eval.proofs.walking.Parts.{part_inside, some_weaker}
+use Rattle.filter_context.proofs.Parts.{part_inside, some_weaker}
 use Rattle.odata_eval.proofs.walking.TextArguments.{first_stands, only_text}
 use Rattle.odata_eval.proofs.kept_operands.only_text_at.Goals as goal
 

@@ -2,11 +2,11 @@ use Rattle.std.proofs.Common.{arith, ◌<◌, ◌+◌, Ok, length, refl, subst, 
 use Rattle.std.proofs.lemmas.Option.{slice_get_read}
 use Rattle.edm_values.specs.declared.datum.Datum.{Datum}
 use Rattle.odata_checked_filter.specs.declared.checked_node.NodeKind.{NodeKind}
-use Rattle.odata_eval.specs.declared.walk_operand.WalkClass.{WalkClass}
+use Rattle.filter_context.specs.declared.walk_class.WalkClass.{WalkClass}
 use Rattle.odata_eval.specs.private.WalkAnswer.{AnswersDatum}
 use Rattle.odata_eval.proofs.walking.MemberSteps.{kept_step}
-use Rattle.odata_eval.proofs.walking.Parts.{part_inside}
-use Rattle.odata_eval.proofs.walking.Spines.{first_part, kind_walks}
+use Rattle.filter_context.proofs.Parts.{part_inside}
+use Rattle.filter_context.proofs.Spines.{first_part, kind_walks}
 use Rattle.odata_eval.proofs.walking.WalkValues.{kept_datum}
 use Rattle.odata_eval.proofs.kept_operands.step_at.Goals as goal
 

@@ -2,8 +2,8 @@ use Rattle.std.proofs.Common.{◌+◌, arith}
 use Rattle.odata_syntax.specs.declared.binary_operator.BinaryOperator.{BinaryOperator}
 use Rattle.odata_eval.proofs.walking.AndChains.{left_side}
 use Rattle.odata_eval.proofs.walking.Compared.{kept_compared, may_compare_kept}
-use Rattle.odata_eval.proofs.walking.Extents.{right_further, right_part, right_there}
-use Rattle.odata_eval.proofs.walking.Operands.{tree_of_kind}
+use Rattle.filter_context.proofs.Extents.{right_further, right_part, right_there}
+use Rattle.filter_context.proofs.Operands.{tree_of_kind}
 use Rattle.odata_checked_filter.specs.declared.checked_node.NodeKind.{NodeKind}
 use Rattle.odata_eval.proofs.kept_operands.step_compared_at.Goals as goal
 

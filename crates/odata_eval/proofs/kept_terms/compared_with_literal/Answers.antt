@@ -5,9 +5,9 @@ use Rattle.odata_syntax.specs.declared.binary_operator.BinaryOperator.{BinaryOpe
 use Rattle.odata_eval.proofs.walking.AndChains.{left_side}
 use Rattle.odata_eval.proofs.walking.Compared.{kept_compared, may_compare_kept}
 use Rattle.odata_eval.proofs.walking.Leaves.{literal_answers, literal_within, property_answers, property_within}
-use Rattle.odata_eval.proofs.walking.Extents.{right_part}
-use Rattle.odata_eval.proofs.walking.Operands.{operand_inside}
-use Rattle.odata_eval.proofs.walking.Parts.{part_inside, there_found}
+use Rattle.filter_context.proofs.Extents.{right_part}
+use Rattle.filter_context.proofs.Operands.{operand_inside}
+use Rattle.filter_context.proofs.Parts.{part_inside, there_found}
 use Rattle.odata_eval.proofs.kept_terms.compared_with_literal.Goals as goal
 
 pub overflow_add-place : goal.overflow_add-place

@@ -6,10 +6,10 @@ use Rattle.odata_signatures.specs.ExprTypes.{IsBooleanOrNull}
 use Rattle.odata_eval.proofs.walking.AndChains.{kept_answers}
 use Rattle.odata_eval.proofs.walking.KeptValues.{value_kept}
 use Rattle.odata_eval.proofs.walking.Leaves.{property_answers, property_within}
-use Rattle.odata_eval.proofs.walking.Parts.{part_inside, there_found}
+use Rattle.filter_context.proofs.Parts.{part_inside, there_found}
 use Rattle.odata_eval.proofs.walking.Readings.{truth_values}
-use Rattle.odata_eval.proofs.walking.Spines.{typed_part}
-use Rattle.odata_eval.proofs.walking.Operands.{tree_operand}
+use Rattle.filter_context.proofs.Spines.{typed_part}
+use Rattle.filter_context.proofs.Operands.{tree_operand}
 use Rattle.odata_eval.proofs.kept_terms.kept_truth_at.Goals as goal
 
 pub node-requires : goal.node-requires

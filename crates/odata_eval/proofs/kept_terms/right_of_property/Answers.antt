@@ -1,6 +1,6 @@
 use Rattle.std.proofs.Common.{◌<◌, ◌+◌, length, rules}
 use Rattle.odata_eval.proofs.walking.Leaves.{property_right}
-use Rattle.odata_eval.proofs.walking.Operands.{operand_inside}
+use Rattle.filter_context.proofs.Operands.{operand_inside}
 use Rattle.odata_eval.proofs.kept_terms.right_of_property.Goals as goal
 
 pub overflow_add-result : goal.overflow_add-result

@@ -4,8 +4,8 @@ use Rattle.odata_eval.specs.declared.budget.Budget.{Budget}
 use Rattle.odata_eval.specs.declared.stop.EvalStop.{EvalStop}
 use Rattle.odata_eval.specs.private.Spending.{SpendsAt}
 use Rattle.odata_eval.proofs.spending.Bound.{never_costly}
-use Rattle.odata_eval.proofs.walking.Spines.{typed_part}
-use Rattle.odata_eval.proofs.walking.Operands.{tree_operand}
+use Rattle.filter_context.proofs.Spines.{typed_part}
+use Rattle.filter_context.proofs.Operands.{tree_operand}
 use Rattle.odata_eval.proofs.truth_walk.term_at.Goals as goal
 
 pub fault_of-requires : goal.fault_of-requires

@@ -3,9 +3,9 @@ use Rattle.std.proofs.lemmas.Option.{slice_get_read}
 use Rattle.edm_values.specs.declared.value.Value.{Value}
 use Rattle.odata_checked_filter.specs.declared.checked_node.CheckedNode.{CheckedNode}
 use Rattle.odata_checked_filter.specs.declared.checked_node.NodeKind.{NodeKind}
-use Rattle.odata_eval.specs.private.Place.{HasKind}
+use Rattle.filter_context.specs.Place.{HasKind}
 use Rattle.odata_eval.proofs.walking.FalseTerms.{compared_sieve}
-use Rattle.odata_eval.proofs.walking.Parts.{there_found}
+use Rattle.filter_context.proofs.Parts.{there_found}
 use Rattle.odata_eval.proofs.value_tests.compared_sieve.Goals as goal
 
 pub returns-in-Some-sieve_of : goal.returns-in-Some-sieve_of

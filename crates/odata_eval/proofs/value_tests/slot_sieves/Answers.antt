@@ -8,7 +8,7 @@ use Rattle.odata_checked_filter.specs.declared.checked_node.CheckedNode.{Checked
 use Rattle.odata_eval.specs.TrueWhere.{AreWhole}
 use Rattle.odata_eval.specs.declared.value_tests.SlotSieve.{SlotSieve}
 use Rattle.odata_eval.specs.private.ValueTests.{AreAllBut, GoesUp}
-use Rattle.odata_eval.proofs.walking.Parts.{there_found}
+use Rattle.filter_context.proofs.Parts.{there_found}
 use Rattle.odata_eval.proofs.walking.FalseTerms.{ands_less, chain_sieve, next_but, next_up, whole_tests}
 use Rattle.odata_eval.proofs.value_tests.slot_sieves.Goals as goal
 

@@ -3,11 +3,11 @@ use Rattle.edm_values.specs.declared.value.Value.{Value}
 use Rattle.odata_checked_filter.specs.declared.checked_node.CheckedNode.{CheckedNode}
 use Rattle.odata_checked_filter.specs.declared.checked_node.NodeKind.{NodeKind}
 use Rattle.odata_eval.proofs.walking.Leaves.{it_answers, literal_answers, literal_within, now_answers, property_answers, property_within, variable_answers, variable_within}
-use Rattle.odata_eval.proofs.walking.Parts.{there_found}
-use Rattle.odata_eval.proofs.walking.Spines.{only_it}
-use Rattle.odata_eval.specs.declared.walk_operand.WalkClass.{WalkClass}
+use Rattle.filter_context.proofs.Parts.{there_found}
+use Rattle.filter_context.proofs.Spines.{only_it}
+use Rattle.filter_context.specs.declared.walk_class.WalkClass.{WalkClass}
 use Rattle.odata_eval.specs.private.WalkAnswer.{AnswersKept}
-use Rattle.odata_eval.specs.private.WalkClass.{walk_of_kind}
+use Rattle.filter_context.specs.WalkClass.{walk_of_kind}
 use Rattle.odata_eval.proofs.walk_operand.leaf_at.Goals as goal
 
 pub returns-in-Literal : goal.returns-in-Literal

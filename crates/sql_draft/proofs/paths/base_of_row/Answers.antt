@@ -2,7 +2,7 @@ use Rattle.std.proofs.Common.{arith, rules}
 use Rattle.std.proofs.lemmas.Option.{slice_get_within}
 use Rattle.std.specs.Prelude.{slice_get}
 use Rattle.odata_checked_filter.specs.declared.checked_node.CheckedNode.{CheckedNode}
-use Rattle.odata_eval.proofs.walking.Parts.{there_found}
+use Rattle.filter_context.proofs.Parts.{there_found}
 use Rattle.odata_ranges.specs.Owners.{NamesSlotOf}
 use Rattle.sql_draft.specs.Translated.{question_of}
 use Rattle.sql_draft.proofs.RowPaths.{column_from_row, document_from_row, names_before, names_up_to, row_first}

@@ -1,6 +1,6 @@
 use Rattle.std.proofs.Common.{◌≡◌, ◌<◌, ◌≤◌, ◌+◌, ◌-◌, ℕ, List, slice_get, sym, subst, arith}
 use Rattle.odata_checked_filter.specs.declared.checked_node.CheckedNode.{CheckedNode}
-use Rattle.odata_eval.proofs.walking.Parts.{found_there, there_found}
+use Rattle.filter_context.proofs.Parts.{found_there, there_found}
 use Rattle.odata_ranges.specs.Owners.{NamesSlotOf}
 use Rattle.sql_tree.specs.declared.json_path.Step.{Step}
 use Rattle.sql_draft.specs.private.Paths.{StepsLead}

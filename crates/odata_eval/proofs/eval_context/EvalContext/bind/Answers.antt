@@ -2,10 +2,10 @@ use Rattle.std.proofs.Common.{◌≡◌, ◌∙◌, List, ◌∷◌, ap, subst, 
 use Rattle.csdl_schema.specs.SchemaModel.{slots_of}
 use Rattle.edm_entities.specs.Row.{Row}
 use Rattle.odata_meaning.specs.Environment.{IsFitting}
-use Rattle.odata_eval.specs.private.Frames.{Frame, environment_in, frame_of, frames_in}
+use Rattle.filter_context.specs.Frames.{Frame, environment_in, frame_of, frames_in}
 use Rattle.odata_eval.specs.private.Lambda.{Suits}
-use Rattle.odata_eval.specs.private.ContextModel.{IsBeside, ContextModel, context_in}
-use Rattle.odata_eval.proofs.walking.Variables.{frames_in-Bound}
+use Rattle.filter_context.specs.ContextModel.{IsBeside, ContextModel, context_in}
+use Rattle.filter_context.proofs.Variables.{frames_in-Bound}
 use Rattle.odata_eval.proofs.eval_context.EvalContext.bind.Goals as goal
 
 -- the same variables make one context of both

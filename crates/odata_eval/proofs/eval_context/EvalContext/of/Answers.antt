@@ -1,6 +1,6 @@
 use Rattle.std.proofs.Common.{◌∙◌}
 use Rattle.edm_entities.specs.Row.{IsEntity}
-use Rattle.odata_eval.proofs.walking.Variables.{frames_in-Empty}
+use Rattle.filter_context.proofs.Variables.{frames_in-Empty}
 use Rattle.odata_eval.proofs.eval_context.EvalContext.of.Goals as goal
 
 pub invariant_of-result : goal.invariant_of-result

@@ -1,4 +1,4 @@
--- For private clauses: the range variables of a walk.
+-- The range variables of a walk.
 use Rattle.std.specs.Prelude.{◌≡◌, ◌<◌, ◌≤◌, ℕ, List, [], ◌∷◌, Option, Some, length, map}
 use Rattle.edm_values.specs.Val.{Val}
 use Rattle.edm_values.specs.declared.value.Value.{Value}
@@ -11,10 +11,10 @@ use Rattle.odata_signatures.specs.Typed.{variable_type}
 use Rattle.odata_checked_filter.specs.Levels.{level_named}
 use Rattle.odata_checked_filter.specs.Stands.{variable_names}
 use Rattle.odata_meaning.specs.Environment.{Bound, Environment, scope_of, variable_value}
-use Rattle.odata_eval.specs.declared.frames.AtLevel.{AtLevel}
-use Rattle.odata_eval.specs.declared.frames.Frames.{Frames, fold-Frames}
-use Rattle.odata_eval.specs.declared.frames.Frames.TheOpen.{Frames-F}
-use Rattle.odata_eval.specs.declared.frames.RangeVariable.{RangeVariable}
+use Rattle.filter_context.specs.declared.frames.AtLevel.{AtLevel}
+use Rattle.filter_context.specs.declared.frames.Frames.{Frames, fold-Frames}
+use Rattle.filter_context.specs.declared.frames.Frames.TheOpen.{Frames-F}
+use Rattle.filter_context.specs.declared.frames.RangeVariable.{RangeVariable}
 
 -- a variable's name and type, and its value
 pub record Frame : Type 0 where

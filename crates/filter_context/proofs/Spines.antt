@@ -18,7 +18,7 @@ use Rattle.odata_checked_filter.specs.declared.checked_node.CheckedNode.{Checked
 use Rattle.odata_checked_filter.specs.declared.checked_node.NodeKind.{NodeKind}
 use Rattle.odata_checked_filter.specs.FlatTree.{FlatTree}
 use Rattle.odata_filter_operations.specs.declared.eval_fault.EvalFault.{EvalFault}
-use Rattle.odata_eval.specs.declared.walk_operand.WalkClass.{WalkClass}
+use Rattle.filter_context.specs.declared.walk_class.WalkClass.{WalkClass}
 use Rattle.odata_meaning.specs.Environment.{scope_of}
 use Rattle.odata_filter_operations.specs.LeftFirst.{After}
 use Rattle.odata_filter_operations.specs.HasGives.{HasGives}
@@ -29,12 +29,12 @@ use Rattle.odata_signatures.specs.Sides.{side_of}
 use Rattle.edm_values.specs.Val as val
 use Rattle.odata_filter_operations.specs.Outcome.{Outcome, overflow, divides_by_zero}
 use Rattle.odata_filter_operations.specs.FaultView.{fault_outcome}
-use Rattle.odata_eval.specs.private.Place.{HasKind, IsClassAt, IsNumberOperand, OperandStands, PartStands, TypedStands}
-use Rattle.odata_eval.specs.private.EvalContext.{MeansHere, StandsHere, TypedHere}
-use Rattle.odata_eval.specs.private.ContextModel.{ContextModel, environment_of}
+use Rattle.filter_context.specs.Place.{HasKind, IsClassAt, IsNumberOperand, OperandStands, PartStands, TypedStands}
+use Rattle.filter_context.specs.EvalContext.{MeansHere, StandsHere, TypedHere}
+use Rattle.filter_context.specs.ContextModel.{ContextModel, environment_of}
 use Rattle.odata_filter_operations.specs.Reports.{Reports}
-use Rattle.odata_eval.specs.private.WalkAnswer.{AnswersAtPlace}
-use Rattle.odata_eval.specs.private.WalkClass.{walk_of_kind, walk_of_operator}
+use Rattle.filter_context.specs.AnswersAtPlace.{AnswersAtPlace}
+use Rattle.filter_context.specs.WalkClass.{walk_of_kind, walk_of_operator}
 use Rattle.odata_signatures.specs.Functions.{IsNamed, row_of}
 use Rattle.odata_signatures.specs.declared.function.Function.{Function}
 use Rattle.odata_signatures.specs.CallTyped.{CallTyped}
@@ -44,9 +44,9 @@ use Rattle.odata_meaning.specs.Means.{ArgumentsMean}
 use Rattle.odata_filter_operations.specs.CallGives.{CallGives}
 use Rattle.csdl_schema.specs.SchemaModel.{Slots, slots_of, type_name_at}
 use Rattle.edm_entities.specs.Row.{value_of}
-use Rattle.odata_eval.proofs.walking.Children.{only_child}
-use Rattle.odata_eval.proofs.walking.Operands.{ResolvedHere, fault_no_value, inner_number, tree_of_class, tree_operand}
-use Rattle.odata_eval.proofs.walking.Parts.{by_kind, goes_there, some_there, reports_there, there_found}
+use Rattle.filter_context.proofs.Children.{only_child}
+use Rattle.filter_context.proofs.Operands.{ResolvedHere, fault_no_value, inner_number, tree_of_class, tree_operand}
+use Rattle.filter_context.proofs.Parts.{by_kind, goes_there, some_there, reports_there, there_found}
 
 -- what is said of the first one, and of those after it, is said of each
 pub with_first : (P : ℕ → Type 0) (first end : ℕ) → P first → ((k : ℕ) → k < end → first + 1 ≤ k → P k) → (k : ℕ) → k < end → first ≤ k → P k

@@ -1,4 +1,4 @@
--- For private clauses: what an expression is and evaluates to where a filter is evaluated.
+-- What an expression is and evaluates to where a filter is evaluated.
 use Rattle.std.specs.Prelude.{◌≡◌, ◌⊎◌, ℕ, ℤ, Some, slice_get, Vec}
 use Rattle.std.specs.declared.alloc.Global.{Global}
 use Rattle.edm_values.specs.declared.value.Value.{Value, Record}
@@ -12,7 +12,7 @@ use Rattle.odata_meaning.specs.EndsOnce.{EndsOnce}
 use Rattle.odata_meaning.specs.Environment.{scope_of}
 use Rattle.odata_meaning.specs.Means.{Means}
 use Rattle.odata_filter_operations.specs.Outcome.{Outcome}
-use Rattle.odata_eval.specs.private.ContextModel.{ContextModel, environment_of}
+use Rattle.filter_context.specs.ContextModel.{ContextModel, environment_of}
 
 -- the nodes of the list from the index up to the stop stand for the tree
 abbrev pub StandsHere : ContextModel → ℕ → ℕ → Tree → Type 0

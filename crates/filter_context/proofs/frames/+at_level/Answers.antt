@@ -1,9 +1,9 @@
 use Rattle.std.proofs.Common.{◌≡◌, ◌∙◌, ℕ, suc, ◌+◌, ◌≤◌, List, [], arith, inl, inr, length, refl, subst, sym}
 use Rattle.std.proofs.lemmas.Bool.{cases_lt}
 use Rattle.csdl_schema.specs.SchemaModel.{SchemaModel, slots_of}
-use Rattle.odata_eval.specs.private.Frames.{Frame, StandsAtLevel, bound_of, environment_in, frame_of, frames_in, names_of}
-use Rattle.odata_eval.proofs.walking.Variables.{at_innermost, bound_frames}
-use Rattle.odata_eval.proofs.frames.+at_level.Goals as goal
+use Rattle.filter_context.specs.Frames.{Frame, StandsAtLevel, bound_of, environment_in, frame_of, frames_in, names_of}
+use Rattle.filter_context.proofs.Variables.{at_innermost, bound_frames}
+use Rattle.filter_context.proofs.frames.+at_level.Goals as goal
 
 -- a schema, for a fact of all of them
 one_schema : SchemaModel

@@ -1,33 +1,33 @@
 //! The range variables around a node, with their values.
 ghost use Rattle.csdl_schema.specs.SchemaModel.{SchemaModel, slots_of};
-ghost use Rattle.odata_eval.specs.private.Frames.{IsAtLevel, environment_in, frames_in};
+ghost use Rattle.filter_context.specs.Frames.{IsAtLevel, environment_in, frames_in};
 
 use edm_values::Value;
 use odata_signatures::EdmType;
 
 /// A range variable without its value.
 #[derive(Clone, Copy)]
-pub(crate) struct RangeVariable<'f> {
-    pub(crate) name: &'f str,
-    pub(crate) edm_type: EdmType,
+pub struct RangeVariable<'f> {
+    pub name: &'f str,
+    pub edm_type: EdmType,
 }
 
 /// Range variables, each with its value, the innermost first.
 #[derive(Clone, Copy)]
-pub(crate) enum Frames<'f> {
+pub enum Frames<'f> {
     Empty,
     Bound(&'f RangeVariable<'f>, &'f Value, &'f Frames<'f>),
 }
 
-/// What is found of a level: the value of its variable, or how many variables there are, none of them at that level.
+/// What is found of a level. It is the value of its variable, or how many variables there are, none of them there.
 #[derive(Clone, Copy)]
-pub(crate) enum AtLevel<'f> {
+pub enum AtLevel<'f> {
     There(&'f Value),
     Fewer(usize),
 }
 
 /// The value of the variable around which so many are.
-pub(crate) fn at_level<'f>(frames: &Frames<'f>, level: usize) -> AtLevel<'f>
+pub fn at_level<'f>(frames: &Frames<'f>, level: usize) -> AtLevel<'f>
     ensures { (schema : SchemaModel)
         → IsAtLevel (slots_of schema) (environment_in schema (frames_in frames.now)) level result }
 {

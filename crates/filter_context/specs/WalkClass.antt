@@ -1,7 +1,7 @@
--- For private clauses: how the walk takes a node.
+-- How the walk takes a node.
 use Rattle.odata_checked_filter.specs.declared.checked_node.NodeKind.{NodeKind}
 use Rattle.odata_syntax.specs.declared.binary_operator.BinaryOperator.{BinaryOperator}
-use Rattle.odata_eval.specs.declared.walk_operand.WalkClass.{WalkClass}
+use Rattle.filter_context.specs.declared.walk_class.WalkClass.{WalkClass}
 
 -- a logical operator takes truth values, arithmetic numbers, a comparison the values of both sides
 abbrev pub walk_of_operator : BinaryOperator → WalkClass

@@ -1,4 +1,4 @@
--- For private clauses: what stands at an index of a filter's list, seen from where it is evaluated.
+-- What stands at an index of a filter's list, seen from where it is evaluated.
 use Rattle.std.specs.Prelude.{◌≡◌, ℕ, ◌+◌, Option, IsSomeAnd, slice_get}
 use Rattle.edm_values.specs.declared.primitive.PrimitiveType.{PrimitiveType}
 use Rattle.odata_syntax.specs.Tree.{Tree}
@@ -8,10 +8,10 @@ use Rattle.odata_checked_filter.specs.declared.checked_node.NodeKind.{NodeKind}
 use Rattle.odata_signatures.specs.declared.function.Function.{Function}
 use Rattle.odata_signatures.specs.ExprTypes.{IsBooleanOrNull, IsNumberOrNull}
 use Rattle.odata_checked_filter.specs.FlatTree.{FlatTree}
-use Rattle.odata_eval.specs.declared.walk_operand.WalkClass.{WalkClass}
-use Rattle.odata_eval.specs.private.EvalContext.{OperandHere, StandsHere, TypedHere}
-use Rattle.odata_eval.specs.private.ContextModel.{ContextModel}
-use Rattle.odata_eval.specs.private.WalkClass.{walk_of_kind}
+use Rattle.filter_context.specs.declared.walk_class.WalkClass.{WalkClass}
+use Rattle.filter_context.specs.EvalContext.{OperandHere, StandsHere, TypedHere}
+use Rattle.filter_context.specs.ContextModel.{ContextModel}
+use Rattle.filter_context.specs.WalkClass.{walk_of_kind}
 
 -- something stands there
 pub record PartStands (context : ContextModel) (place : ℕ) : Type 0 where

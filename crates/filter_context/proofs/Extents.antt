@@ -8,23 +8,23 @@ use Rattle.odata_signatures.specs.OperatorTyped.{IsEquality}
 use Rattle.odata_checked_filter.specs.declared.checked_node.CheckedNode.{CheckedNode}
 use Rattle.odata_checked_filter.specs.declared.checked_node.NodeKind.{NodeKind}
 use Rattle.odata_checked_filter.specs.FlatTree.{FlatTree}
-use Rattle.odata_eval.specs.declared.walk_operand.WalkClass.{WalkClass}
+use Rattle.filter_context.specs.declared.walk_class.WalkClass.{WalkClass}
 use Rattle.odata_meaning.specs.Environment.{scope_of}
 use Rattle.odata_signatures.specs.Reads.{OfEquality}
 use Rattle.odata_signatures.specs.Sides.{side_of}
-use Rattle.odata_eval.specs.private.Place.{HasKind, IsRightOf, OperandStands, PartStands, TypedStands}
-use Rattle.odata_eval.specs.private.EvalContext.{OperandHere, StandsHere, TypedHere}
-use Rattle.odata_eval.specs.private.ContextModel.{ContextModel, environment_of}
-use Rattle.odata_eval.specs.private.WalkClass.{walk_of_operator}
+use Rattle.filter_context.specs.Place.{HasKind, IsRightOf, OperandStands, PartStands, TypedStands}
+use Rattle.filter_context.specs.EvalContext.{OperandHere, StandsHere, TypedHere}
+use Rattle.filter_context.specs.ContextModel.{ContextModel, environment_of}
+use Rattle.filter_context.specs.WalkClass.{walk_of_operator}
 use Rattle.odata_checked_filter.specs.Stands.{ResolvedStands, NumberStands, SideBySide, Stands}
 use Rattle.odata_checked_filter.specs.private.Stands.{AllStand, ItemsStand}
 use Rattle.odata_syntax.specs.declared.node.LiteralKind.{LiteralKind}
 use Rattle.odata_signatures.specs.Typed.{Scope, Typed, with_variable}
 use Rattle.csdl_schema.specs.SchemaModel.{SchemaModel, slots_of, type_name_at}
-use Rattle.odata_eval.proofs.walking.Children.{body_stands, one_there}
-use Rattle.odata_eval.proofs.walking.Operands.{ResolvedHere, resolved_here, resolved_operand, number_there}
-use Rattle.odata_eval.proofs.walking.Parts.{by_kind, found_there, some_there, there_found}
-use Rattle.odata_eval.proofs.walking.Spines.{AllowedBy, StandsAll, equality_walks, operands_allowed, plain_types}
+use Rattle.filter_context.proofs.Children.{body_stands, one_there}
+use Rattle.filter_context.proofs.Operands.{ResolvedHere, resolved_here, resolved_operand, number_there}
+use Rattle.filter_context.proofs.Parts.{by_kind, found_there, some_there, there_found}
+use Rattle.filter_context.proofs.Spines.{AllowedBy, StandsAll, equality_walks, operands_allowed, plain_types}
 
 one_stop : (o : Option CheckedNode) (a b : ℕ) → IsSomeAnd o (λ found. found.stop ≡ a) → IsSomeAnd o (λ found. found.stop ≡ b) → a ≡ b
 one_stop o a b first second =

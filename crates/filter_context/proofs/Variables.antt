@@ -12,9 +12,9 @@ use Rattle.odata_checked_filter.specs.Levels.{level_named}
 use Rattle.odata_meaning.specs.Environment.{Bound as BoundVariable, Environment, scope_of, variable_value}
 use Rattle.odata_meaning.specs.NameGives.{FoundGives}
 use Rattle.odata_filter_operations.specs.Outcome.{gives}
-use Rattle.odata_eval.specs.declared.frames.Frames.{Frames, Bound, Empty, the_lemmas}
-use Rattle.odata_eval.specs.declared.frames.RangeVariable.{RangeVariable}
-use Rattle.odata_eval.specs.private.Frames.{Frame, StandsAtLevel, VariableHolds, bound_of, environment_in, frame_of, frames_in, names_of}
+use Rattle.filter_context.specs.declared.frames.Frames.{Frames, Bound, Empty, the_lemmas}
+use Rattle.filter_context.specs.declared.frames.RangeVariable.{RangeVariable}
+use Rattle.filter_context.specs.Frames.{Frame, StandsAtLevel, VariableHolds, bound_of, environment_in, frame_of, frames_in, names_of}
 
 pub frames_in-Empty : frames_in Empty ≡ []
 frames_in-Empty = search (rules, the_lemmas)

@@ -1,4 +1,4 @@
--- For private clauses: what a walk of a filter's list goes by.
+-- What a walk of a filter's list goes by.
 use Rattle.std.specs.Prelude.{◌≡◌, List, ◌∷◌, Vec}
 use Rattle.std.specs.declared.alloc.Global.{Global}
 use Rattle.edm_values.specs.MomentParts.{MomentParts}
@@ -8,7 +8,7 @@ use Rattle.edm_entities.specs.Row.{Row, IsEntity}
 use Rattle.odata_checked_filter.specs.declared.checked_node.CheckedNode.{CheckedNode}
 use Rattle.odata_checked_filter.specs.FlatTree.{FlatTree}
 use Rattle.odata_meaning.specs.Environment.{Environment, IsFitting}
-use Rattle.odata_eval.specs.private.Frames.{Frame, environment_in}
+use Rattle.filter_context.specs.Frames.{Frame, environment_in}
 
 -- the entity, the moment that `now` stands for, the filter's list, and the variables
 pub record ContextModel : Type 0 where

@@ -26,13 +26,13 @@ use Rattle.odata_filter_operations.specs.declared.eval_fault.EvalFault.{EvalFaul
 use Rattle.edm_entities.specs.Row.{value_of}
 use Rattle.odata_meaning.specs.Environment.{scope_of}
 use Rattle.odata_meaning.specs.OneByOne.{ItemAlone}
-use Rattle.odata_eval.specs.declared.walk_operand.WalkClass.{WalkClass}
-use Rattle.odata_eval.specs.private.Place.{HasKind, IsClassAt, OperandStands, PartStands}
-use Rattle.odata_eval.specs.private.EvalContext.{MeansHere, NumberHere, OperandHere, StandsHere, TypedHere}
-use Rattle.odata_eval.specs.private.ContextModel.{ContextModel, environment_of}
-use Rattle.odata_eval.specs.private.WalkAnswer.{AnswersAtPlace}
-use Rattle.odata_eval.specs.private.WalkClass.{walk_of_kind}
-use Rattle.odata_eval.proofs.walking.Parts.{some_there, stands_inside, reports_there, there_found}
+use Rattle.filter_context.specs.declared.walk_class.WalkClass.{WalkClass}
+use Rattle.filter_context.specs.Place.{HasKind, IsClassAt, OperandStands, PartStands}
+use Rattle.filter_context.specs.EvalContext.{MeansHere, NumberHere, OperandHere, StandsHere, TypedHere}
+use Rattle.filter_context.specs.ContextModel.{ContextModel, environment_of}
+use Rattle.filter_context.specs.AnswersAtPlace.{AnswersAtPlace}
+use Rattle.filter_context.specs.WalkClass.{walk_of_kind}
+use Rattle.filter_context.proofs.Parts.{some_there, stands_inside, reports_there, there_found}
 
 -- the kind of a node that is no literal's
 abbrev pub IsOther : NodeKind → Type 0
