@@ -5,7 +5,7 @@ using System.Text;
 namespace Odfilter
 {
     /// <summary>Why a call gave nothing. The code stays from version to version; the message is a sentence for people.
-    /// Without a class of their own: NotUtf8, MomentNeeded, NotAMoment, TooCostly, UnknownColumn, and of SQL Nul and
+    /// Without a class of their own: NotUtf8, MomentNeeded, NotAMoment, UnknownColumn, and of SQL Nul and
     /// TooDeep.</summary>
     public class ODataException : Exception
     {
@@ -30,8 +30,6 @@ namespace Odfilter
                     return new ODataException("MomentNeeded", "The filter calls now(), and the judge has no moment.");
                 case Status.NotAMoment:
                     return new ODataException("NotAMoment", "The text is not a moment.");
-                case Status.TooCostly:
-                    return new ODataException("TooCostly", "The filter costs more on the row than the judge's bound.");
                 case Status.Unsayable:
                     return new ODataException("Nul", "A text has the character U+0000, which no engine takes.");
                 case Status.TooDeep:
@@ -172,11 +170,12 @@ namespace Odfilter
         public string TypeName { get; }
     }
 
-    /// <summary>A row has no verdict. Lines are counted from 1; Kept has the lines that are kept before it.</summary>
+    /// <summary>A row has no verdict; one that costs more than the judge's bound has the code TooCostly. Lines are
+    /// counted from 1; Kept has the lines that are kept before it.</summary>
     public sealed class RowException : ODataException
     {
         internal RowException(Status status, Answer answer, byte[] path, ulong line, byte[] kept)
-            : base(Text.CodeOf(status, answer), Text.MessageOf(null, status, path, answer))
+            : base(Text.CodeOf(status, answer), Sentence(status, answer, path))
         {
             Path = Text.Of(path);
             Line = line;
@@ -186,8 +185,14 @@ namespace Odfilter
         /// <summary>The path from the row to the value at fault, as Parts/0/Qty; it may be empty.</summary>
         public string Path { get; }
 
-        public ulong Line { get; }
+        public ulong Line { get; internal set; }
 
         public byte[] Kept { get; }
+
+        private static string Sentence(Status status, Answer answer, byte[] path)
+        {
+            return status == Status.TooCostly ? "The filter costs more on the row than the judge's bound."
+                : Text.MessageOf(null, status, path, answer);
+        }
     }
 }

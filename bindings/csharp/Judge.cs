@@ -47,7 +47,7 @@ namespace Odfilter
         }
 
         /// <summary>Whether the filter is true on a row, one JSON object in UTF-8; null where it is null. Throws a
-        /// RowException, or the codes TooCostly and MomentNeeded.</summary>
+        /// RowException, or the code MomentNeeded.</summary>
         public bool? Verdict(byte[] row)
         {
             return Verdict(row, 0, row.Length);
@@ -82,21 +82,37 @@ namespace Odfilter
             return Verdict(Text.Utf8(row));
         }
 
-        /// <summary>The rows on which the filter is true, one after another as they come.</summary>
+        /// <summary>The rows on which the filter is true, one after another as they come. The first one at fault is a
+        /// RowException, whose Line counts the rows.</summary>
         public IEnumerable<string> Keep(IEnumerable<string> rows)
         {
+            ulong line = 0;
             foreach (var row in rows)
             {
-                if (Verdict(row) == true)
+                line++;
+                if (IsKept(row, line))
                 {
                     yield return row;
                 }
             }
         }
 
+        private bool IsKept(string row, ulong line)
+        {
+            try
+            {
+                return Verdict(row) == true;
+            }
+            catch (RowException fault)
+            {
+                fault.Line = line;
+                throw;
+            }
+        }
+
         /// <summary>Judges rows, one JSON object a line, and returns those on which the filter is true. Blank lines are
-        /// passed over. The first line at fault is a RowException, which has what is kept before it; one that costs
-        /// more than the bound has the code TooCostly.</summary>
+        /// passed over. The first line at fault, or that costs more than the bound, is a RowException, which has what
+        /// is kept before it.</summary>
         public unsafe KeptLines FilterLines(byte[] rows)
         {
             lock (oneCall)
@@ -125,6 +141,7 @@ namespace Odfilter
                 case Status.RowFault:
                 case Status.EvalFault:
                 case Status.LineTooLong:
+                case Status.TooCostly:
                     var judge = Open;
                     var path = Text.Written(
                         (Bytes text, out Answer written) => Native.odfilter_path(judge, text, out written));

@@ -25,7 +25,6 @@ var plainErrors = map[status]error{
 	statusNotUTF8:       ErrNotUTF8,
 	statusMomentNeeded:  ErrMomentNeeded,
 	statusNotAMoment:    ErrNotAMoment,
-	statusTooCostly:     ErrTooCostly,
 	statusUnknownColumn: ErrUnknownColumn,
 	statusMemory:        ErrOutOfMemory,
 	statusUnsayable:     &UnsayableError{Code: "Nul"},
@@ -78,7 +77,8 @@ type SchemaError struct {
 type UnknownTypeError struct{ Name, Message string }
 
 // A RowError says why a row has no verdict. Path leads from the row to the value at fault, as Parts/0/Qty; it may be
-// empty. Line counts lines from 1, and Kept has the lines that were kept before it.
+// empty. Line counts lines from 1, and Kept has the lines that were kept before it. Of a row that costs more than the
+// judge's bound Code is "TooCostly", and errors.Is finds ErrTooCostly.
 type RowError struct {
 	Code, Path, Message string
 	Line                uint64
@@ -94,6 +94,14 @@ func (e *QueryError) Error() string       { return e.Message }
 func (e *SchemaError) Error() string      { return e.Message }
 func (e *UnknownTypeError) Error() string { return e.Message }
 func (e *RowError) Error() string         { return e.Message }
+
+// Unwrap returns ErrTooCostly for a row that costs more than the judge's bound.
+func (e *RowError) Unwrap() error {
+	if e.Code == "TooCostly" {
+		return ErrTooCostly
+	}
+	return nil
+}
 
 func (e *UnsayableError) Error() string {
 	if e.Code == "TooDeep" {

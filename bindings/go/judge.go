@@ -84,7 +84,7 @@ func (f *Filter) NewJudge(options ...JudgeOption) (*Judge, error) {
 	return judge, nil
 }
 
-// Verdict judges a row: one JSON object in UTF-8. The error is a *RowError, ErrTooCostly or ErrMomentNeeded.
+// Verdict judges a row: one JSON object in UTF-8. The error is a *RowError or ErrMomentNeeded.
 func (j *Judge) Verdict(row []byte) (Verdict, error) {
 	by, err := j.use()
 	if err != nil {
@@ -107,8 +107,8 @@ type Kept struct {
 }
 
 // FilterLines judges rows, one JSON object a line, and returns those on which the filter is true. Blank lines are
-// passed over. The first line at fault is a *RowError, which has what is kept before it; one that costs more than the
-// bound is ErrTooCostly.
+// passed over. The first line at fault, or that costs more than the bound, is a *RowError, which has what is kept
+// before it.
 func (j *Judge) FilterLines(rows []byte) (Kept, error) {
 	by, err := j.use()
 	if err != nil {
@@ -126,23 +126,26 @@ func (j *Judge) FilterLines(rows []byte) (Kept, error) {
 
 // rowError returns why a row has no verdict; of lines, kept has those that are kept before it.
 func rowError(judge handle, s status, a *answer, kept []byte) error {
-	if s < statusJSONFault || s > statusLineTooLong {
+	if s < statusJSONFault || s > statusTooCostly {
 		return errorOf(s)
-	}
-	var at []byte
-	if s == statusRowFault {
-		at, _ = written(func(text []byte, a *answer) status { return path(judge, text, a) })
 	}
 	line := uint64(a.number)
 	if kept == nil {
 		line = 1
 	}
-	return &RowError{Code: codeOf(s, a), Path: string(at), Message: messageOf(nil, s, at, a), Line: line, Kept: kept}
+	fault := &RowError{Code: codeOf(s, a), Line: line, Kept: kept}
+	if s == statusTooCostly {
+		fault.Message = ErrTooCostly.Error()
+		return fault
+	}
+	at, _ := written(func(text []byte, a *answer) status { return path(judge, text, a) })
+	fault.Path, fault.Message = string(at), messageOf(nil, s, at, a)
+	return fault
 }
 
 // Keep returns a reader of those lines of rows on which the filter is true. What has come is judged before more is
-// waited for. The first line at fault ends it with a *RowError, after the lines that are kept before it; Line counts
-// the lines of rows. A line that costs more than the bound ends it with ErrTooCostly.
+// waited for. The first line at fault, or that costs more than the bound, ends it with a *RowError, after the lines
+// that are kept before it; Line counts the lines of rows.
 func (j *Judge) Keep(rows io.Reader) io.Reader {
 	return &lineReader{judge: j, rows: rows, block: make([]byte, blockSize)}
 }

@@ -68,6 +68,30 @@ func TestKeep(t *testing.T) {
 	}
 }
 
+// A line that costs more than the bound ends the lines as one at fault does, however they come.
+func TestTooCostlyLines(t *testing.T) {
+	judge := must(must(item().Check("Tags/any(t:t eq 'b')")).NewJudge(Within(2)))
+	first := append(row(3, "null", true), '\n')
+	costly := bytes.Replace(first, []byte(`"a","b"`), []byte(`"y","z"`), 1)
+	all := bytes.Join([][]byte{first, []byte(" \n"), first, costly, first}, nil)
+	wanted := append(append([]byte(nil), first...), first...)
+	isWell := func(err error, kept []byte) bool {
+		var fault *RowError
+		return errors.Is(err, ErrTooCostly) && errors.As(err, &fault) && fault.Code == "TooCostly" &&
+			fault.Line == 4 && fault.Path == "" && bytes.Equal(fault.Kept, kept)
+	}
+	if found, err := judge.FilterLines(all); !isWell(err, wanted) || found.Text != nil {
+		t.Errorf("%#v", err)
+	}
+	for name, given := range map[string]io.Reader{
+		"whole": bytes.NewReader(all), "bytes": iotest.OneByteReader(bytes.NewReader(all)),
+	} {
+		if got, err := io.ReadAll(judge.Keep(given)); !isWell(err, nil) || !bytes.Equal(got, wanted) {
+			t.Errorf("%s %q %#v", name, got, err)
+		}
+	}
+}
+
 func TestKeepOfFaultyReaders(t *testing.T) {
 	judge := must(must(item().Check("Active")).NewJudge())
 	broken, first := errors.New("broken"), append(row(3, "null", true), '\n')

@@ -63,8 +63,9 @@ function codeOf(status, fault) {
   return FAULTS[status]?.[number] ?? written((text, answer) => native.faultName(status, number, text, answer));
 }
 
-/** The library's sentence about a fault of a text; `type` is the handle of the type, or null. */
+/** The sentence about a fault of a text, the library's where it has one; `type` is the handle of the type, or null. */
 function messageOf(type, status, about, fault) {
+  if (status === STATUS.TOO_COSTLY) return PLAIN[status][1];
   return written((text, answer) => native.faultText(type, status, about, text, fault, answer));
 }
 

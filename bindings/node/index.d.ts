@@ -33,7 +33,10 @@ export class SchemaFault extends ODataError {
 export class UnknownType extends ODataError {
   readonly typeName: string;
 }
-/** A row has no verdict. Lines are counted from 1; `kept` has the lines that are kept before it. */
+/**
+ * A row has no verdict; one that costs more than the bound has the code TooCostly. Lines are counted from 1; `kept` has
+ * the lines that are kept before it.
+ */
 export class RowFault extends ODataError {
   readonly path: string;
   readonly line: number;
@@ -84,7 +87,7 @@ export interface SqlOptions {
 export interface JudgeOptions {
   /** The moment that now() stands for. */
   now?: string | Date;
-  /** What the filter may cost on each row of `verdict`. */
+  /** What the filter may cost on each row. */
   bound?: number | bigint;
 }
 /** A checked filter. */

@@ -5,7 +5,9 @@ const { STATUS, VERDICT } = require('./numbers.js');
 const { Held } = require('./held.js');
 const { KeptLines } = require('./lines.js');
 
-const ROW_FAULTS = new Set([STATUS.JSON_FAULT, STATUS.ROW_FAULT, STATUS.EVAL_FAULT, STATUS.LINE_TOO_LONG]);
+const ROW_FAULTS = new Set(
+  [STATUS.JSON_FAULT, STATUS.ROW_FAULT, STATUS.EVAL_FAULT, STATUS.LINE_TOO_LONG, STATUS.TOO_COSTLY],
+);
 const MOST = 2n ** 64n - 1n;
 
 /** What judges rows by a filter. Reuse it: it caches how rows of that shape are read. */

@@ -25,6 +25,7 @@ internal static partial class Tests
         ChecksOfSurrogates();
         ChecksOfSql();
         ChecksOfLines();
+        ChecksOfCostlyLines();
         ChecksOfClosing();
         ChecksOfThreads();
         ChecksOfGrowth();
@@ -215,5 +216,21 @@ internal static partial class Tests
         var large = new byte[(1 << 20) + 1];
         Same("too long", Thrown<RowException>(() => judge.FilterLines(large)).Code, "LineTooLong");
         SameList("rows", judge.Keep(new[] { row, Row(2, "null", false), row }), row, row);
+        ulong line = 3;
+        Same("a row at fault", Thrown<RowException>(() => judge.Keep(new[] { row, row, "{}" }).ToList()).Line, line);
+    }
+
+    private static void ChecksOfCostlyLines()
+    {
+        var judge = Item().Check("Tags/any(t:t eq 'b')").NewJudge(bound: 2);
+        var row = Row(1, "null", true);
+        var costly = row.Replace("\"a\",\"b\"", "\"y\",\"z\"");
+        var all = row + "\n \n" + costly + "\n" + row;
+        var fault = Thrown<RowException>(() => judge.FilterLines(Encoding.UTF8.GetBytes(all)));
+        Same("too costly", fault.Code + fault.Path + fault.Line + Encoding.UTF8.GetString(fault.Kept),
+            "TooCostly3" + row + "\n");
+        fault = Thrown<RowException>(() => judge.Keep(new[] { row, row, costly, row }).ToList());
+        Same("too costly of rows", fault.Code + fault.Line + fault.Kept.Length, "TooCostly30");
+        That("a sentence", fault.Message.EndsWith("."), fault.Message);
     }
 }

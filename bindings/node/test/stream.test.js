@@ -6,7 +6,8 @@ const { test } = require('node:test');
 const { DOCUMENT, row } = require('./items.js');
 const odfilter = require('../index.js');
 
-const judge = () => odfilter.Schema.read(DOCUMENT).type('Mini.Item').check('Active').judge();
+const item = () => odfilter.Schema.read(DOCUMENT).type('Mini.Item');
+const judge = () => item().check('Active').judge();
 const LINE_LIMIT = 1 << 20;
 
 /** Lines of which one may be at fault, and those that are kept before it. */
@@ -18,13 +19,13 @@ function lines(count, faulty) {
 }
 
 /** What a stream gives for chunks of so many bytes, and its error. */
-async function streamed(text, size) {
+async function streamed(text, size, by = judge()) {
   const bytes = Buffer.from(text);
   const count = Math.ceil(bytes.length / size);
   const chunks = Array.from({ length: count }, (_, n) => bytes.subarray(n * size, (n + 1) * size));
   const got = [];
   try {
-    for await (const chunk of Readable.from(chunks, { objectMode: false }).pipe(judge().stream())) got.push(chunk);
+    for await (const chunk of Readable.from(chunks, { objectMode: false }).pipe(by.stream())) got.push(chunk);
   } catch (error) {
     return [Buffer.concat(got).toString(), error];
   }
@@ -52,6 +53,19 @@ test('a stream of lines, in chunks of any size', async () => {
     }
     const last = row(3, 'null', true);
     assert.deepEqual(await streamed(last, size), [`${last}\n`, undefined]);
+  }
+});
+
+test('a line that costs more than the bound', async () => {
+  const costly = () => item().check("Tags/any(t:t eq 'b')").judge({ bound: 2 });
+  const first = `${row(3, 'null', true)}\n`;
+  const all = `${first} \n${first}${first.replace('"a","b"', '"y","z"')}${first}`;
+  const isWell = (it) => it instanceof odfilter.RowFault && it.code === 'TooCostly' && it.line === 4 && it.path === '';
+  assert.throws(() => costly().filterLines(all), (it) => isWell(it) && it.kept.toString() === first + first);
+  for (const size of [1, 200, 1 << 16]) {
+    const [got, error] = await streamed(all, size, costly());
+    assert.ok(isWell(error) && error.kept.length === 0, error);
+    assert.equal(got, first + first);
   }
 });
 

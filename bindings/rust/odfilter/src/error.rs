@@ -31,7 +31,7 @@ pub enum Error {
     /// The filter calls now(), and the judge has no moment.
     MomentNeeded,
     /// The filter costs more on the row than the judge's bound.
-    TooCostly,
+    TooCostly(Box<RowFault>),
     /// The text is not UTF-8.
     NotUtf8,
     /// An allocation of the library failed.
@@ -127,7 +127,6 @@ pub(crate) fn plain(status: u32) -> Error {
         c::ODFILTER_MEMORY => Error::OutOfMemory,
         c::ODFILTER_MOMENT_NEEDED => Error::MomentNeeded,
         c::ODFILTER_NOT_A_MOMENT => Error::NotAMoment,
-        c::ODFILTER_TOO_COSTLY => Error::TooCostly,
         c::ODFILTER_UNSAYABLE => Error::Nul,
         c::ODFILTER_TOO_DEEP => Error::TooDeep,
         c::ODFILTER_UNKNOWN_COLUMN => Error::UnknownColumn,
@@ -142,16 +141,13 @@ impl fmt::Display for Error {
             Error::Query(it) => to.write_str(&it.message),
             Error::Schema(it) => to.write_str(&it.message),
             Error::UnknownType(message) => to.write_str(message),
-            Error::Row(it) => to.write_str(&it.message),
+            Error::Row(it) | Error::TooCostly(it) => to.write_str(&it.message),
             Error::Nul => to.write_str("a text has the character U+0000, which no engine takes"),
             Error::TooDeep => to.write_str("the conditions nest too deeply for the engine"),
             Error::UnknownColumn => to.write_str("a column is named for no property of the type"),
             Error::NotAMoment => to.write_str("the text is not a moment"),
             Error::MomentNeeded => {
                 to.write_str("the filter calls now(), and the judge has no moment")
-            }
-            Error::TooCostly => {
-                to.write_str("the filter costs more on the row than the judge's bound")
             }
             Error::NotUtf8 => to.write_str("the text is not UTF-8"),
             Error::OutOfMemory => to.write_str("out of memory"),

@@ -1,5 +1,5 @@
 //! Judges, which judge rows by a filter.
-use crate::calls::{buffer, bytes, code_of, message_of, written, Handle};
+use crate::calls::{buffer, bytes, code_of, message_of, text, Handle};
 use crate::error::{plain, Error, Result, RowFault};
 use crate::filter::Filter;
 use odfilter_sys as c;
@@ -75,8 +75,8 @@ impl Judge {
     }
 
     /// Judges rows, one JSON object a line, and returns those on which the filter is true. Blank lines are passed over.
-    /// The first line at fault is an `Error::Row`, which has what is kept before it; one that costs more than the bound
-    /// is `Error::TooCostly`.
+    /// The first line at fault is an `Error::Row`, and one that costs more than the bound an `Error::TooCostly`, which
+    /// has what is kept before it.
     pub fn filter_lines(&mut self, rows: &[u8]) -> Result<Kept> {
         let mut text = vec![0; rows.len() + 1];
         let mut answer = c::odfilter_answer::default();
@@ -99,27 +99,34 @@ impl Judge {
     }
 
     /// The lines of a reader on which the filter is true, one after another as they come, without their line feeds. The
-    /// first line at fault is an `Error::Row`, whose line counts those of the reader, and the last item.
+    /// first line at fault is an `Error::Row`, or one that costs more than the bound an `Error::TooCostly`, whose line
+    /// counts those of the reader, and the last item.
     pub fn keep<R: BufRead>(&mut self, rows: R) -> Keep<'_, R> {
         Keep { judge: self, rows, line: 0, is_over: false }
     }
 
     fn fault(&self, status: u32, answer: &c::odfilter_answer, line: u64, kept: Vec<u8>) -> Error {
-        match status {
+        let path = match status {
+            c::ODFILTER_ROW_FAULT => self.path(),
             c::ODFILTER_JSON_FAULT
-            | c::ODFILTER_ROW_FAULT
             | c::ODFILTER_EVAL_FAULT
-            | c::ODFILTER_LINE_TOO_LONG => {
-                // SAFETY: the handle is a judge, and all else is of this call.
-                let path = written(|to, of| unsafe { c::odfilter_path(self.handle.at(), to, of) })
-                    .unwrap_or_default();
-                let message = message_of(None, status, &path, answer);
-                let path = String::from_utf8_lossy(&path).into_owned();
-                let code = code_of(status, answer);
-                Error::Row(Box::new(RowFault { code, path, line, kept, message }))
-            }
-            other => plain(other),
+            | c::ODFILTER_LINE_TOO_LONG
+            | c::ODFILTER_TOO_COSTLY => String::new(),
+            other => return plain(other),
+        };
+        let code = code_of(status, answer);
+        if status == c::ODFILTER_TOO_COSTLY {
+            let message = "the filter costs more on the row than the judge's bound".to_owned();
+            return Error::TooCostly(Box::new(RowFault { code, path, line, kept, message }));
         }
+        let message = message_of(None, status, path.as_bytes(), answer);
+        Error::Row(Box::new(RowFault { code, path, line, kept, message }))
+    }
+
+    /// The path of the last row's fault.
+    fn path(&self) -> String {
+        // SAFETY: the handle is a judge, and all else is of this call.
+        text(|to, of| unsafe { c::odfilter_path(self.handle.at(), to, of) }).unwrap_or_default()
     }
 }
 
@@ -173,7 +180,7 @@ impl<R: BufRead> Iterator for Keep<'_, R> {
         }
         let mut kept = self.kept();
         self.is_over = !matches!(kept, Ok(Some(_)));
-        if let Err(Error::Row(fault)) = &mut kept {
+        if let Err(Error::Row(fault) | Error::TooCostly(fault)) = &mut kept {
             fault.line = self.line;
         }
         kept.transpose()

@@ -22,7 +22,7 @@ fn the_deepest_filters() {
         assert!(filter.canonical().unwrap().len() > 500);
         assert!(filter.explanation().unwrap().len() > 500);
         let mut judge = filter.judge().unwrap().within(1000);
-        judge.verdict(row(1, "null", true)).map_err(|error| matches!(error, Error::TooCostly))
+        judge.verdict(row(1, "null", true)).map_err(|error| matches!(error, Error::TooCostly(_)))
     };
     let all = move || deepest.iter().map(judged).collect::<Vec<_>>();
     let found = thread::Builder::new().stack_size(STACK).spawn(all).unwrap().join().unwrap();

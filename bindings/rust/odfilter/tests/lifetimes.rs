@@ -63,6 +63,25 @@ fn lines_of_a_reader() {
 }
 
 #[test]
+fn a_line_that_costs_more_than_the_bound() {
+    let filter = item().check("Tags/any(t:t eq 'b')").unwrap();
+    let mut judge = filter.judge().unwrap().within(2);
+    let first = format!("{}\n", row(3, "null", true));
+    let costly = first.replace(r#""a","b""#, r#""y","z""#);
+    let all = format!("{first} \n{first}{costly}{first}");
+    let Err(Error::TooCostly(fault)) = judge.filter_lines(all.as_bytes()) else { panic!() };
+    let kept = first.repeat(2).into_bytes();
+    assert_eq!((fault.code.as_str(), fault.line, fault.kept), ("TooCostly", 4, kept));
+    let mut found = judge.keep(all.as_bytes());
+    for _ in 0..2 {
+        assert_eq!(found.next().unwrap().unwrap(), first.trim_end().as_bytes());
+    }
+    let Some(Err(Error::TooCostly(fault))) = found.next() else { panic!() };
+    assert_eq!((fault.line, fault.kept), (4, Vec::new()));
+    assert!(found.next().is_none());
+}
+
+#[test]
 fn dropped_in_any_order() {
     for order in permutations(4) {
         let schema = Schema::read(DOCUMENT).unwrap();

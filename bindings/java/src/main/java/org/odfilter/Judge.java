@@ -2,6 +2,7 @@ package org.odfilter;
 
 import java.time.Instant;
 import java.util.Arrays;
+import java.util.concurrent.atomic.AtomicLong;
 import java.util.stream.Stream;
 
 /** Judges rows by a filter. Reuse it: it caches how rows of that shape are read. Its calls wait for one another. */
@@ -42,7 +43,7 @@ public final class Judge implements AutoCloseable {
         return this;
     }
 
-    /** Judges a row, one JSON object in UTF-8; or throws a RowException, or the codes TooCostly or MomentNeeded. */
+    /** Judges a row, one JSON object in UTF-8; or throws a RowException, or the code MomentNeeded. */
     public synchronized Verdict verdict(byte[] row) {
         int status = handle.status(it -> Calls.judgeNext(it, row, answer));
         if (status != Numbers.OK) {
@@ -56,9 +57,21 @@ public final class Judge implements AutoCloseable {
         return verdict(Text.utf8(row));
     }
 
-    /** The rows of a stream on which the filter is true, one after another as they come. */
+    /**
+     * The rows of a stream on which the filter is true, one after another as they come. The first one at fault is a
+     * RowException, whose line counts the rows.
+     */
     public Stream<String> keep(Stream<String> rows) {
-        return rows.sequential().filter(it -> verdict(it) == Verdict.TRUE);
+        AtomicLong line = new AtomicLong();
+        return rows.sequential().filter(it -> isKept(it, line.incrementAndGet()));
+    }
+
+    private boolean isKept(String row, long line) {
+        try {
+            return verdict(row) == Verdict.TRUE;
+        } catch (RowException fault) {
+            throw fault.at(line);
+        }
     }
 
     /** What filterLines gives: the kept lines, each with its line feed, and how many rows there were and were kept. */
@@ -88,8 +101,7 @@ public final class Judge implements AutoCloseable {
 
     /**
      * Judges rows, one JSON object a line, and returns those on which the filter is true. Blank lines are passed over.
-     * The first line at fault is a RowException, which has what is kept before it; one that costs more than the bound
-     * has the code TooCostly.
+     * The first line at fault, or that costs more than the bound, is a RowException, which has what is kept before it.
      */
     public synchronized Kept filterLines(byte[] rows) {
         byte[] kept = new byte[rows.length + 1];
@@ -107,6 +119,7 @@ public final class Judge implements AutoCloseable {
             case Numbers.ROW_FAULT:
             case Numbers.EVAL_FAULT:
             case Numbers.LINE_TOO_LONG:
+            case Numbers.TOO_COSTLY:
                 byte[] path = handle.use(it -> Text.written((text, answer) -> Calls.path(it, text, answer)));
                 return new RowException(status, fault, path, line, kept);
             default:

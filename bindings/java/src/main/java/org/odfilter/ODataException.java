@@ -3,8 +3,7 @@ package org.odfilter;
 /**
  * Why a call gave nothing. The code stays from version to version; the message is a sentence for people.
  *
- * <p>Without a class of their own: NotUtf8, MomentNeeded, NotAMoment, TooCostly, UnknownColumn, and of SQL Nul and
- * TooDeep.
+ * <p>Without a class of their own: NotUtf8, MomentNeeded, NotAMoment, UnknownColumn, and of SQL Nul and TooDeep.
  */
 public class ODataException extends RuntimeException {
     private static final long serialVersionUID = 1L;
@@ -31,8 +30,6 @@ public class ODataException extends RuntimeException {
                 return new ODataException("MomentNeeded", "the filter calls now(), and the judge has no moment");
             case Numbers.NOT_A_MOMENT:
                 return new ODataException("NotAMoment", "the text is not a moment");
-            case Numbers.TOO_COSTLY:
-                return new ODataException("TooCostly", "the filter costs more on the row than the judge's bound");
             case Numbers.UNSAYABLE:
                 return new ODataException("Nul", "a text has the character U+0000, which no engine takes");
             case Numbers.TOO_DEEP:

@@ -1,17 +1,22 @@
 package org.odfilter;
 
-/** A row has no verdict. */
+/** A row has no verdict; one that costs more than the judge's bound has the code TooCostly. */
 public final class RowException extends ODataException {
     private static final long serialVersionUID = 1L;
     private final String path;
-    private final long line;
+    private long line;
     private final byte[] kept;
 
     RowException(int status, Answer answer, byte[] path, long line, byte[] kept) {
-        super(Text.codeOf(status, answer), Text.messageOf(0, status, path, answer));
+        super(Text.codeOf(status, answer), sentence(status, answer, path));
         this.path = Text.of(path);
         this.line = line;
         this.kept = kept;
+    }
+
+    private static String sentence(int status, Answer answer, byte[] path) {
+        return status == Numbers.TOO_COSTLY ? "the filter costs more on the row than the judge's bound"
+                : Text.messageOf(0, status, path, answer);
     }
 
     /** The path from the row to the value at fault, as Parts/0/Qty; it may be empty. */
@@ -22,6 +27,12 @@ public final class RowException extends ODataException {
     /** The line at fault, from 1. */
     public long line() {
         return line;
+    }
+
+    /** This fault, of a line that is counted from elsewhere. */
+    RowException at(long line) {
+        this.line = line;
+        return this;
     }
 
     /** The lines that are kept before it. */

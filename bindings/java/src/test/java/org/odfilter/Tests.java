@@ -29,6 +29,7 @@ final class Tests {
         checksOfSurrogates();
         checksOfSql();
         checksOfLines();
+        checksOfCostlyLines();
         Lifetimes.checksOfClosing();
         Lifetimes.checksOfThreads();
         Lifetimes.checksOfGrowth();
@@ -159,8 +160,22 @@ final class Tests {
         equal("too long", thrown(RowException.class, () -> judge.filterLines(Text.utf8(large))).code(), "LineTooLong");
         List<String> rows = judge.keep(Stream.of(kept, row(2, "null", false), kept)).collect(Collectors.toList());
         equal("a stream", rows, List.of(kept, kept));
+        fault = thrown(RowException.class, () -> judge.keep(Stream.of(kept, kept, "{}")).count());
+        equal("a row at fault", fault.line(), 3L);
         String great = kept.replace("null", "\"" + "x".repeat(3 << 20) + "\"");
         equal("a great row", judge.verdict(great), Verdict.TRUE);
         equal("and a small one", judge.verdict(kept), Verdict.TRUE);
+    }
+
+    private static void checksOfCostlyLines() {
+        Judge judge = item().check("Tags/any(t:t eq 'b')").judge().within(2);
+        String row = row(1, "null", true);
+        String costly = row.replace("\"a\",\"b\"", "\"y\",\"z\"");
+        String all = row + "\n \n" + costly + "\n" + row;
+        RowException fault = thrown(RowException.class, () -> judge.filterLines(Text.utf8(all)));
+        equal("too costly", List.of(fault.code(), fault.path(), fault.line()), List.of("TooCostly", "", 3L));
+        equalBytes("kept before it", fault.kept(), Text.utf8(row + "\n"));
+        fault = thrown(RowException.class, () -> judge.keep(Stream.of(row, row, costly, row)).count());
+        equal("too costly of rows", List.of(fault.code(), fault.line()), List.of("TooCostly", 3L));
     }
 }
