@@ -86,6 +86,8 @@ static void *use_it(void *nothing)
     check("its paths", odfilter_property_paths(filter, room, &answer) == ODFILTER_OK);
     into_sql();
     check("a row is judged", judged(filter, judge, row, &verdict) == ODFILTER_OK);
+    check("a bound", odfilter_set_bound(judge, 1000000) == ODFILTER_OK);
+    check("a row within a bound", judged(filter, judge, row, &verdict) == ODFILTER_OK);
     check("the first by the filter's judge", judged_next(own, row, &verdict) == ODFILTER_OK);
     check("the next by it", judged_next(own, row, &verdict) == ODFILTER_OK);
     odfilter_free(&own);
