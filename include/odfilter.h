@@ -320,8 +320,9 @@ uint32_t odfilter_set_moment(odfilter_handle *judge, odfilter_bytes moment);
 
 /* Bounds what a filter may cost on a row: how many times it judges the body of an any() or all(), and how many items of
  * lists and members of collections it compares after `in` within one; also, anywhere, the whole KiB of each text that a
- * comparison or a function takes, and 16 times those of each text that concat, tolower or toupper makes. Each row has the
- * whole bound, and so has each line of odfilter_filter_lines. Without this call there is none.
+ * comparison or a function takes, and 16 times those of each text that concat, tolower or toupper makes. Each row has
+ * the whole bound, and so has each line of odfilter_filter_lines. Without this call there is none. The cost does not
+ * measure time: a body counts 1, however long it is.
  *
  * ODFILTER_OK. ODFILTER_NULL: `judge` is. ODFILTER_OTHER_KIND: it is not a judge. */
 uint32_t odfilter_set_bound(odfilter_handle *judge, uint64_t most);
