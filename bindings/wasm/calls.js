@@ -61,8 +61,12 @@ function odfilterCalls(instance) {
     if (kind === 'h') return it === null ? 0 : it.address;
     if (kind === 'u') return BigInt(it);
     if (kind === 'n') return it;
-    if (kind === 'b' || kind === 'w') new Uint8Array(memory.buffer, at, it.length).set(it);
-    else if (kind === 'f') writeAnswer(at, it);
+    if (kind === 'b' || kind === 'w') {
+      new Uint8Array(memory.buffer, at, it.length).set(it);
+      // a struct of an address and a length is passed as two numbers of 64 bits, as on x86-64
+      return BigInt(at);
+    }
+    if (kind === 'f') writeAnswer(at, it);
     else if (kind === 'm') new DataView(memory.buffer).setBigUint64(at, 0n, true);
     return at;
   }
