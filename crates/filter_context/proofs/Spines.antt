@@ -21,19 +21,20 @@ use Rattle.odata_filter_operations.specs.declared.eval_fault.EvalFault.{EvalFaul
 use Rattle.filter_context.specs.declared.walk_class.WalkClass.{WalkClass}
 use Rattle.odata_meaning.specs.Environment.{scope_of}
 use Rattle.odata_filter_operations.specs.LeftFirst.{After}
-use Rattle.odata_filter_operations.specs.HasGives.{HasGives}
-use Rattle.odata_meaning.specs.OperatorGives.{OperatorGives, SidesGive}
-use Rattle.odata_meaning.specs.ReadGives.{GivesMember}
-use Rattle.odata_signatures.specs.Reads.{OfEquality, ReadsNone}
+use Rattle.odata_meaning.specs.OperatorGives.{OperatorGives}
+use Rattle.odata_meaning.specs.ReadGives.{OperandGives}
+use Rattle.odata_meaning.proofs.meaning.SameGives.{after_both, itself, turned}
+use Rattle.odata_meaning.proofs.meaning.UnreadAlone.{operand_alone}
+use Rattle.odata_signatures.specs.Reads.{OfEquality, ReadsNone, ReadsNumber}
 use Rattle.odata_signatures.specs.Sides.{side_of}
 use Rattle.edm_values.specs.Val as val
 use Rattle.odata_filter_operations.specs.Outcome.{Outcome, overflow, divides_by_zero}
 use Rattle.odata_filter_operations.specs.FaultView.{fault_outcome}
-use Rattle.filter_context.specs.Place.{HasKind, IsClassAt, IsNumberOperand, OperandStands, PartStands, TypedStands}
-use Rattle.filter_context.specs.EvalContext.{MeansHere, StandsHere, TypedHere}
-use Rattle.filter_context.specs.ContextModel.{ContextModel, environment_of}
+use Rattle.filter_context.specs.private.Place.{HasKind, IsClassAt, IsNumberOperand, OperandStands, PartStands, TypedStands}
+use Rattle.filter_context.specs.private.EvalContext.{MeansHere, StandsHere, TypedHere}
+use Rattle.filter_context.specs.private.ContextModel.{ContextModel, environment_of}
 use Rattle.odata_filter_operations.specs.Reports.{Reports}
-use Rattle.filter_context.specs.AnswersAtPlace.{AnswersAtPlace}
+use Rattle.filter_context.specs.private.AnswersAtPlace.{AnswersAtPlace}
 use Rattle.filter_context.specs.WalkClass.{walk_of_kind, walk_of_operator}
 use Rattle.odata_signatures.specs.Functions.{IsNamed, row_of}
 use Rattle.odata_signatures.specs.declared.function.Function.{Function}
@@ -269,6 +270,14 @@ module _ (context : ContextModel) where
   equality_allows (BinaryOperator.Comparison comparison) type equality = tt
   equality_allows _ type equality = absurd equality
 
+  -- the left operand, where it is not read, has a type that the walk takes
+  first_allowed : (operator : BinaryOperator) (from to : ℕ) (left right : Tree) (type : ExprType) → ReadsNone (slots_of context.row.schema) (OfEquality operator (TypedHere context right)) left
+      → (i j : ℕ) → ResolvedHere context (OfEquality operator (TypedHere context left)) right i j → (typed : TypedHere context (node from to (binary operator left right)) type)
+      → AllowedBy (walk_of_operator operator) typed.left
+  first_allowed operator from to left right type alone i j (inl read) typed = equality_allows operator typed.left read.1.beside.0
+  first_allowed operator from to left right type alone i j (inr other) typed =
+      (operands_allowed operator typed.left typed.right type (types_alone context from to operator left right other.0 alone type typed)).0
+
   binary_first : (place : ℕ) (operator : BinaryOperator) (stop from to : ℕ) (left right : Tree) → (stands : StandsHere context place stop (node from to (binary operator left right)))
       → ResolvedHere context (OfEquality operator (TypedHere context right)) left (place + 1) stands.children.middle
       → ResolvedHere context (OfEquality operator (TypedHere context left)) right stands.children.middle stands.children.right.middle
@@ -278,27 +287,24 @@ module _ (context : ContextModel) where
     faults = λ fault answers type typed.
         absurd (fault_no_value fault (val.member read.0) (answers.of_number read.0 stands.children.middle left type read.2));
   }
-  binary_first place operator stop from to left right stands (inr alone) (inl read) =
+  binary_first place operator stop from to left right stands (inr alone) second =
       let whole = node from to (binary operator left right) in
+      let slots = slots_of context.row.schema in
+      let Left : Outcome → Type 0 = OperandGives (ReadsNumber slots (OfEquality operator (TypedHere context right)) left) (MeansHere context left) in
+      let Right : Outcome → Type 0 = OperandGives (ReadsNumber slots (OfEquality operator (TypedHere context left)) right) (MeansHere context right) in
+      let Goes : Val → Outcome → Type 0 = λ l. OperatorGives operator (TypedHere context whole) l Right in
       of_first context place (walk_of_operator operator) stop whole stands
-      (after_first place (walk_of_operator operator) whole left stands.children.middle (λ l. OperatorGives operator (TypedHere context whole) l (GivesMember read.0)) (first_child left (right ∷ [])) alone.1
-      (λ type typed. (typed.left, (typed.left_typed, equality_allows operator typed.left read.1.beside.0))) (λ o given. inl (read.0, read.1, given)))
-  binary_first place operator stop from to left right stands (inr alone) (inr other) =
-      let whole = node from to (binary operator left right) in
-      of_first context place (walk_of_operator operator) stop whole stands
-      (after_first place (walk_of_operator operator) whole left stands.children.middle (λ l. OperatorGives operator (TypedHere context whole) l (MeansHere context right)) (first_child left (right ∷ [])) alone.1
-      (λ type typed. (typed.left, (typed.left_typed, (operands_allowed operator typed.left typed.right type (types_alone context from to operator left right other.0 alone.0 type typed)).0)))
-      (λ o given. inr (other.0, inr (alone.0, given))))
+      (after_first place (walk_of_operator operator) whole left stands.children.middle Goes (first_child left (right ∷ [])) alone.1
+      (λ type typed. (typed.left, (typed.left_typed, first_allowed operator from to left right type alone.0 stands.children.middle stands.children.right.middle second typed)))
+      (λ o given. (after_both (MeansHere context left) Left Goes Goes (turned Left (MeansHere context left)
+      (operand_alone (ReadsNumber slots (OfEquality operator (TypedHere context right)) left) (MeansHere context left) alone.0)) (λ l. itself (Goes l)) o).0 given))
 
   -- so has `has`, of which the right operand may be read
   flags_first : (place stop from to : ℕ) (left right : Tree) (i j : ℕ) → StandsHere context (place + 1) stop left → ResolvedHere context (TypedHere context left) right i j
       → FirstTree context place WalkClass.Eager (node from to (has left right))
-  flags_first place stop from to left right i j stands (inl read) =
-      after_first place WalkClass.Eager (node from to (has left right)) left stop (λ l. HasGives l (val.member read.0)) (first_child left (right ∷ [])) stands
-      (λ type typed. (typed.left, (typed.left_typed, tt))) (λ o given. inl (read.0, read.1, given))
-  flags_first place stop from to left right i j stands (inr alone) =
-      after_first place WalkClass.Eager (node from to (has left right)) left stop (λ l. After (MeansHere context right) (HasGives l)) (first_child left (right ∷ [])) stands
-      (λ type typed. (typed.left, (typed.left_typed, tt))) (λ o given. inr (alone.0, given))
+  flags_first place stop from to left right i j stands beside =
+      after_first place WalkClass.Eager (node from to (has left right)) left stop _ (first_child left (right ∷ [])) stands
+      (λ type typed. (typed.left, (typed.left_typed, tt))) (λ o given. given)
 
   first_of_kind : (place : ℕ) (kind : NodeKind) → ¬ (walk_of_kind kind ≡ WalkClass.Leaf) → HasKind context.list place kind
       → (stop : ℕ) (tree : Tree) → StandsHere context place stop tree → FirstOperand context place (walk_of_kind kind) tree

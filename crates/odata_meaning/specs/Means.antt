@@ -1,6 +1,5 @@
 -- What an expression evaluates to on an entity (OData URL Conventions 4.01, section 5.1.1).
 use Rattle.std.specs.Prelude.{◌≡◌, ℕ, zero, suc, List, [], ◌∷◌, length}
-use Rattle.edm_values.specs.Val as val
 use Rattle.edm_values.specs.Val.{Val}
 use Rattle.edm_values.specs.MomentParts.{MomentParts}
 use Rattle.odata_syntax.specs.Spans.{list_of_trees}
@@ -24,7 +23,7 @@ use Rattle.odata_meaning.specs.LiteralGives.{LiteralGives}
 use Rattle.odata_meaning.specs.NameGives.{NameGives, StepGives}
 use Rattle.odata_meaning.specs.OperatorGives.{InType, SidesGive}
 use Rattle.odata_filter_operations.specs.Outcome.{NoOutcome, Outcome, gives}
-use Rattle.odata_meaning.specs.ReadGives.{GivesMember, UnlessRead}
+use Rattle.odata_meaning.specs.ReadGives.{OperandGives}
 use Rattle.odata_filter_operations.specs.TruthGives.{NotGives}
 
 -- an operator between two trees of these types and outcomes; an enumeration literal without its type has its number
@@ -32,14 +31,9 @@ abbrev pub BinaryGives :
     Slots → BinaryOperator → (ExprType → Type 0) → (ExprType → Type 0) → Tree → Tree → (Outcome → Type 0)
     → (Outcome → Type 0) → Outcome → Type 0
 BinaryGives slots operator LeftTyped RightTyped left right Left Right =
-    UnlessRead (ReadsNumber slots (OfEquality operator LeftTyped) right)
-    (λ n. SidesGive operator (OperandsTyped LeftTyped RightTyped (Between (OperatorTyped slots operator) left right))
-    Left (GivesMember n))
-    (UnlessRead (ReadsNumber slots (OfEquality operator RightTyped) left)
-    (λ n. SidesGive operator (OperandsTyped LeftTyped RightTyped (Between (OperatorTyped slots operator) left right))
-    (GivesMember n) Right)
-    (SidesGive operator (OperandsTyped LeftTyped RightTyped (Between (OperatorTyped slots operator) left right))
-    Left Right))
+    SidesGive operator (OperandsTyped LeftTyped RightTyped (Between (OperatorTyped slots operator) left right))
+    (OperandGives (ReadsNumber slots (OfEquality operator RightTyped) left) Left)
+    (OperandGives (ReadsNumber slots (OfEquality operator LeftTyped) right) Right)
 
 -- the outcomes of a tree under the types' properties, the filtered type's name, the moment that `now` stands for, the
 -- entity and the variables around the tree, by whose types operands of arithmetic and members of collections have
@@ -67,10 +61,9 @@ abbrev mutual
       (Typed slots root (scope_of environment) right) left right (Means slots root now entity environment left)
       (Means slots root now entity environment right)
   ShapeMeans slots root now entity environment (has left right) =
-      UnlessRead (ReadsNumber slots (Typed slots root (scope_of environment) left) right)
-      (λ n. After (Means slots root now entity environment left) (λ l. HasGives l (val.member n)))
-      (After (Means slots root now entity environment left)
-      (λ l. After (Means slots root now entity environment right) (HasGives l)))
+      After (Means slots root now entity environment left)
+      (λ l. After (OperandGives (ReadsNumber slots (Typed slots root (scope_of environment) left) right)
+      (Means slots root now entity environment right)) (HasGives l))
   ShapeMeans slots root now entity environment (in_list left items) =
       After (Means slots root now entity environment left)
       (λ l. ItemsGive l (length (list_of_trees items))
@@ -92,7 +85,7 @@ abbrev mutual
       Slots → List ℕ → MomentParts → Val → Environment → (ExprType → Type 0) → Trees → ℕ → Outcome → Type 0
   ItemMeans slots root now entity environment OtherSide no_trees place = NoOutcome
   ItemMeans slots root now entity environment OtherSide (more_trees tree more) zero =
-      UnlessRead (ReadsNumber slots OtherSide tree) GivesMember (Means slots root now entity environment tree)
+      OperandGives (ReadsNumber slots OtherSide tree) (Means slots root now entity environment tree)
   ItemMeans slots root now entity environment OtherSide (more_trees tree more) (suc place) =
       ItemMeans slots root now entity environment OtherSide more place
 

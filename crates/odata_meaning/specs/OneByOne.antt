@@ -16,7 +16,7 @@ use Rattle.odata_filter_operations.specs.LeftFirst.{After}
 use Rattle.odata_meaning.specs.Means.{ItemMeans, Means}
 use Rattle.odata_filter_operations.specs.Outcome.{Outcome, gives}
 use Rattle.odata_filter_operations.specs.QuantifierGives.{undecided_val}
-use Rattle.odata_meaning.specs.ReadGives.{GivesMember, UnlessRead}
+use Rattle.odata_meaning.specs.ReadGives.{OperandGives}
 use Rattle.odata_signatures.specs.Reads.{ReadsNumber}
 use Rattle.odata_signatures.specs.Typed.{Typed}
 
@@ -59,7 +59,7 @@ ComparedOneByOne =
 abbrev pub ItemAlone :
     Slots → List ℕ → MomentParts → Val → Environment → (ExprType → Type 0) → Tree → Outcome → Type 0
 ItemAlone slots root now entity environment OtherSide tree =
-    UnlessRead (ReadsNumber slots OtherSide tree) GivesMember (Means slots root now entity environment tree)
+    OperandGives (ReadsNumber slots OtherSide tree) (Means slots root now entity environment tree)
 
 -- of the items of a list
 abbrev pub ItemsOneByOne : Type 0

@@ -11,3 +11,7 @@ GivesMember n o = o ≡ gives (member n)
 -- what is given of the number that is read; where none is, what is given else
 abbrev pub UnlessRead : (ℤ → Type 0) → (ℤ → Outcome → Type 0) → (Outcome → Type 0) → Outcome → Type 0
 UnlessRead Reads Given Else o = ((n : ℤ) × Reads n × Given n o) ⊎ (((n : ℤ) → ¬ Reads n) × Else o)
+
+-- an operand: the number that is read there, where one is; else what its tree evaluates to by itself
+abbrev pub OperandGives : (ℤ → Type 0) → (Outcome → Type 0) → Outcome → Type 0
+OperandGives Reads Alone = UnlessRead Reads GivesMember Alone

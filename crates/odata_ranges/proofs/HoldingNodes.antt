@@ -1,49 +1,32 @@
 -- The nodes with two operands, by their kinds.
 use Rattle.odata_ranges.proofs.Common.{◌≡◌, inl, inr, ℕ, ℤ, ◌+◌, List, true, Some, length, slice_get, refl, sym, subst, Val, null, items, Tree, binary, literal, node, LiteralKind, ComparisonOperator, BinaryOperator, Quantifier, ExprType, SingleType, single, collection, Slots, slots_of, type_name_at, IsEquality, expr_type, EdmType, OneType, with_variable, Filter, ResolvedStands, InBody, NumberStands, Stands, CheckedNode, NodeKind, Lies, TypedEndsOnce, bound_over, scope_of, Means, GivesMember, members_of, HasGives, InGives, LambdaGives, MemberGives, After, Then, Outcome, gives, IsKept, HoldsRange, IsContextOf, MeansIn, CheckContext, IsValueWithin, IsWithin, Range, CoversFaults, HoldsOperator}
 use Rattle.edm_values.specs.Val as val
-use Rattle.odata_signatures.specs.Reads.{OfEquality, ReadsNone}
-use Rattle.odata_meaning.specs.LiteralGives.{LiteralGives}
+use Rattle.odata_signatures.specs.Reads.{OfEquality, ReadsNone, ReadsNumber}
+use Rattle.odata_meaning.specs.ReadGives.{OperandGives}
 use Rattle.odata_ranges.proofs.Forms.{StandsIn, TypedIn, holds_by, lies, stop_there, two_parts, type_there, value_has}
 use Rattle.odata_ranges.proofs.Layouts.{stop_there as stop_lies}
-use Rattle.odata_ranges.proofs.Holding.{FaultsWithin, after_within, faults_pass}
-use Rattle.odata_ranges.proofs.HoldingTwo.{equality_within, has_within, in_within, member_faults, member_has, member_kept, quantified_within, sides_within, some_faults}
+use Rattle.odata_ranges.proofs.Holding.{after_within, faults_pass}
+use Rattle.odata_ranges.proofs.HoldingTwo.{has_within, in_within, member_has, member_kept, quantified_within, sides_within, some_faults}
 use Rattle.odata_ranges.proofs.KeptPaths.{tree_kept}
 use Rattle.odata_ranges.proofs.StandingLies.{resolved_lies}
-
--- an equality hands on the faults of both its sides
-equality_covers : (operator : BinaryOperator) (type : EdmType) (left right result : Range) → IsEquality operator → HoldsOperator operator type left right result → CoversFaults result left right
-equality_covers (BinaryOperator.Comparison ComparisonOperator.Eq) type left right result is holds = holds
-equality_covers (BinaryOperator.Comparison ComparisonOperator.Ne) type left right result is holds = holds
-equality_covers _ type left right result is holds = absurd is
-
--- a literal evaluates to no fault
-literal_faults : (slots : Slots) (kind : LiteralKind) (spelling : List ℕ) (range : Range) (x : Outcome) → LiteralGives slots kind spelling x → FaultsWithin range x
-literal_faults slots kind spelling range (gives v) given = tt
-literal_faults slots kind spelling range _ given = absurd given
 
 module _ (types : OneType) (filter : Filter) (place : ℕ) (found first : CheckedNode) (at : slice_get filter.list.nodes place ≡ Some found)
     (first_at : slice_get filter.list.nodes (place + 1) ≡ Some first) (left right result : Range)
     (left_holds : HoldsRange filter (place + 1) left) (right_holds : HoldsRange filter first.stop right) where
   module _ (context : CheckContext) (is : IsContextOf filter context) where
-    -- a literal that is read evaluates to no fault by itself
-    number_faults : (number : ℤ) (i j : ℕ) (tree : Tree) (x : Outcome) → NumberStands filter.schema filter.filtered (scope_of context.environment) filter.list number i j tree
-        → MeansIn filter context tree x → FaultsWithin result x
-    number_faults number i j (node from to (literal LiteralKind.Str spelling)) x stands means = literal_faults (slots_of filter.schema) LiteralKind.Str spelling result x means
-    number_faults number i j _ x stands means = absurd stands
-
-    -- what stands beside an operand has the faults of its range
-    side_faults : (side : Range) (OtherSide : ExprType → Type 0) (i j : ℕ) (tree : Tree) → HoldsRange filter i side → (side.may_fault ≡ true → result.may_fault ≡ true)
-        → ResolvedStands filter.schema filter.filtered (scope_of context.environment) filter.list OtherSide tree (λ a b. StandsIn filter (scope_of context.environment) a b tree) i j
-        → (x : Outcome) → MeansIn filter context tree x → FaultsWithin result x
-    side_faults side OtherSide i j tree holds passes (inl read) x means = number_faults read.0 i j tree x read.2 means
-    side_faults side OtherSide i j tree holds passes (inr alone) x means = faults_pass side result x passes (holds context tree j x is alone.1 means)
-
-    -- and lies within it where it is not read
+    -- what stands beside an operand lies within its range where it is not read
     side_within : (side : Range) (OtherSide : ExprType → Type 0) (i j : ℕ) (tree : Tree) → HoldsRange filter i side → ReadsNone (slots_of filter.schema) OtherSide tree
         → ResolvedStands filter.schema filter.filtered (scope_of context.environment) filter.list OtherSide tree (λ a b. StandsIn filter (scope_of context.environment) a b tree) i j
         → (x : Outcome) → MeansIn filter context tree x → IsWithin side x
     side_within side OtherSide i j tree holds none (inl read) x means = absurd (none read.0 read.1)
     side_within side OtherSide i j tree holds none (inr alone) x means = holds context tree j x is alone.1 means
+
+    -- and so does its number where it is
+    operand_within : (side : Range) (OtherSide : ExprType → Type 0) (i j : ℕ) (tree : Tree) → HoldsRange filter i side
+        → ResolvedStands filter.schema filter.filtered (scope_of context.environment) filter.list OtherSide tree (λ a b. StandsIn filter (scope_of context.environment) a b tree) i j
+        → (x : Outcome) → OperandGives (ReadsNumber (slots_of filter.schema) OtherSide tree) (MeansIn filter context tree) x → IsWithin side x
+    operand_within side OtherSide i j tree holds stands x (inl read) = subst (IsWithin side) (sym read.2) tt
+    operand_within side OtherSide i j tree holds stands x (inr alone) = side_within side OtherSide i j tree holds alone.0 stands x alone.1
 
     -- the right side stands where the left one stops
     right_range : (i middle : ℕ) (tree : Tree) → i ≡ place + 1 → Lies filter.schema filter.filtered (scope_of context.environment) filter.list i middle tree → HoldsRange filter middle right
@@ -72,25 +55,11 @@ module _ (types : OneType) (filter : Filter) (place : ℕ) (found first : Checke
       let left_lies = resolved_lies filter.schema filter.filtered scope filter.list LeftBeside l (λ a b. StandsIn filter scope a b l) (place + 1) two.middle
       (lies filter scope (place + 1) two.middle l) two.left in
       let of_range : HoldsRange filter two.middle right = right_range context is (place + 1) two.middle l refl left_lies in
-      elim given [
-        | inl read ↦ (
-            let covers = equality_covers operator found.edm_type left right result read.1.beside.0 holds in
-            equality_within operator result (TypedIn filter scope whole) (MeansIn filter context l) (GivesMember read.0) o read.1.beside.0
-            (side_faults context is left LeftBeside (place + 1) two.middle l left_holds covers.first two.left) (member_faults result read.0) read.2
-            )
-        | inr others ↦ elim others.1 [
-          | inl read ↦ (
-              let covers = equality_covers operator found.edm_type left right result read.1.beside.0 holds in
-              equality_within operator result (TypedIn filter scope whole) (GivesMember read.0) (MeansIn filter context r) o read.1.beside.0
-              (member_faults result read.0) (side_faults context is right RightBeside two.middle s r of_range covers.second two.right) read.2
-              )
-          | inr unread ↦
-              sides_within filter found left right result operator (TypedIn filter scope whole) (MeansIn filter context l) (MeansIn filter context r) o holds
-              (one_node context s whole stands)
-              (side_within context is left LeftBeside (place + 1) two.middle l left_holds unread.0 two.left)
-              (side_within context is right RightBeside two.middle s r of_range others.0 two.right) unread.1
-        ]
-      ]
+      sides_within filter found left right result operator (TypedIn filter scope whole)
+      (OperandGives (ReadsNumber slots LeftBeside l) (MeansIn filter context l)) (OperandGives (ReadsNumber slots RightBeside r) (MeansIn filter context r)) o holds
+      (one_node context s whole stands)
+      (operand_within context is left LeftBeside (place + 1) two.middle l left_holds two.left)
+      (operand_within context is right RightBeside two.middle s r of_range two.right) given
 
   pub operator_holds : (operator : BinaryOperator) → found.kind ≡ NodeKind.Binary operator → HoldsOperator operator found.edm_type left right result → HoldsRange filter place result
   operator_holds operator kind_is holds = holds_by filter place found at result (NodeKind.Binary operator) kind_is
@@ -105,21 +74,13 @@ module _ (types : OneType) (filter : Filter) (place : ℕ) (found first : Checke
       (ResolvedStands filter.schema filter.filtered scope filter.list (TypedIn filter scope l) r (λ a b. StandsIn filter scope a b r)) (place + 1) s stands_there.children in
       let of_left : (x : Outcome) → MeansIn filter context l x → IsWithin left x = λ x m. left_holds context l two.middle x is two.left m in
       let of_range : HoldsRange filter two.middle right = right_range context is (place + 1) two.middle l refl (lies filter scope (place + 1) two.middle l two.left) in
-      elim given [
-        | inl read ↦
-            after_within result (MeansIn filter context l) (λ v. HasGives v (val.member read.0)) o (λ x m. faults_pass left result x faults.first (of_left x m))
-            (λ v m goes. has_within left right result v (val.member read.0) o left_nulls (λ none_there. absurd (cc)) (of_left (gives v) m) goes) read.2
-        | inr unread ↦
-            after_within result (MeansIn filter context l) (λ v. After (MeansIn filter context r) (HasGives v)) o (λ x m. faults_pass left result x faults.first (of_left x m))
-            (λ v m goes. after_within result (MeansIn filter context r) (HasGives v) o
-            (side_faults context is right (TypedIn filter scope l) two.middle s r of_range faults.second two.right)
-            (λ w k more. has_within left right result v w o left_nulls
-            (λ none_there. right_nulls (subst (λ (u : Val). IsValueWithin right u) none_there
-            (side_within context is right (TypedIn filter scope l) two.middle s r of_range unread.0 two.right (gives w) k)))
-            (of_left (gives v) m) more)
-            goes)
-            unread.1
-      ])
+      let Operand : Outcome → Type 0 = OperandGives (ReadsNumber (slots_of filter.schema) (TypedIn filter scope l) r) (MeansIn filter context r) in
+      let of_right : (x : Outcome) → Operand x → IsWithin right x = operand_within context is right (TypedIn filter scope l) two.middle s r of_range two.right in
+      after_within result (MeansIn filter context l) (λ v. After Operand (HasGives v)) o (λ x m. faults_pass left result x faults.first (of_left x m))
+      (λ v m goes. after_within result Operand (HasGives v) o (λ x k. faults_pass right result x faults.second (of_right x k))
+      (λ w k more. has_within left right result v w o left_nulls (λ none_there. right_nulls (subst (λ (u : Val). IsValueWithin right u) none_there (of_right (gives w) k))) (of_left (gives v) m) more)
+      goes)
+      given)
 
   pub in_path_holds : found.kind ≡ NodeKind.InPath → CoversFaults result left right → (right.may_be_null ≡ true → result.may_be_null ≡ true) → HoldsRange filter place result
   in_path_holds kind_is faults nulls = holds_by filter place found at result NodeKind.InPath kind_is

@@ -89,17 +89,6 @@ module _ (filter : Filter) (found : CheckedNode) (left right result : Range) whe
       after_within result Left (λ l. OperatorGives operator NodeTyped l Right) o (λ x is. faults_pass left result x (class_faults operator holds) (of_left x is))
       (λ l is goes. class_within operator NodeTyped l Right o holds one (of_left (gives l) is) of_right goes) given
 
--- `eq` and `ne` evaluate to a truth value, or to a fault of a side
-pub equality_within : (operator : BinaryOperator) (result : Range) (NodeTyped : ExprType → Type 0) (Left Right : Outcome → Type 0) (o : Outcome) → IsEquality operator
-    → ((x : Outcome) → Left x → FaultsWithin result x) → ((x : Outcome) → Right x → FaultsWithin result x) → SidesGive operator NodeTyped Left Right o → IsWithin result o
-equality_within (BinaryOperator.Comparison ComparisonOperator.Eq) result NodeTyped Left Right o is of_left of_right given =
-    after_within result Left (λ l. After Right (CompareGives ComparisonOperator.Eq l)) o of_left
-    (λ l is_l goes. after_within result Right (CompareGives ComparisonOperator.Eq l) o of_right (λ r is_r more. compared_within result ComparisonOperator.Eq l r o more) goes) given
-equality_within (BinaryOperator.Comparison ComparisonOperator.Ne) result NodeTyped Left Right o is of_left of_right given =
-    after_within result Left (λ l. After Right (CompareGives ComparisonOperator.Ne l)) o of_left
-    (λ l is_l goes. after_within result Right (CompareGives ComparisonOperator.Ne l) o of_right (λ r is_r more. compared_within result ComparisonOperator.Ne l r o more) goes) given
-equality_within _ result NodeTyped Left Right o is of_left of_right given = absurd is
-
 pub member_faults : (result : Range) (n : ℤ) (x : Outcome) → GivesMember n x → FaultsWithin result x
 member_faults result n x given = subst (FaultsWithin result) (sym given) tt
 

@@ -11,7 +11,7 @@ use Rattle.odata_checked_filter.specs.declared.checked_node.NodeKind.{NodeKind}
 use Rattle.odata_meaning.specs.Environment.{scope_of}
 use Rattle.odata_meaning.specs.Means.{Means}
 use Rattle.odata_meaning.specs.OperatorGives.{SidesGive}
-use Rattle.filter_context.specs.Place.{HasKind}
+use Rattle.filter_context.specs.private.Place.{HasKind}
 use Rattle.odata_signatures.specs.OperatorTyped.{IsEquality}
 use Rattle.odata_signatures.specs.Reads.{OfEquality}
 use Rattle.odata_signatures.specs.Typed.{Scope, Typed}
@@ -21,6 +21,7 @@ use Rattle.odata_syntax.specs.declared.binary_operator.BinaryOperator.{BinaryOpe
 use Rattle.sql_draft.specs.World.{IsAskedOf, OfPlace, Question, World}
 use Rattle.sql_draft.proofs.Leaves.{MeansIn}
 use Rattle.sql_draft.proofs.Places.{by_kind, stop_is}
+use Rattle.odata_meaning.proofs.meaning.UnreadAlone.{operands_alone}
 
 module _ (question : Question) (world : World) (seen : IsAskedOf question world) where
   -- what a tree evaluates to by the filter's own schema
@@ -94,13 +95,9 @@ module _ (question : Question) (operator : BinaryOperator) (unread : IsEquality 
         to = to;
         stop = stop;
         stands = stands;
-        given = elim means [
-          | inl read ↦ absurd (unread read.1.beside.0)
-          | inr other ↦ elim other.1 [
-            | inl read ↦ absurd (unread read.1.beside.0)
-            | inr plain ↦ plain.1
-          ]
-        ];
+        given =
+            (operands_alone slots root world.now (value_of world.row) world.environment from to operator a b o (λ number reads. unread reads.beside.0) (λ number reads. unread reads.beside.0)).0
+            means;
       }
 
   pub binary_comes : OfPlace question.filter place world o → BinaryComes question operator place second world seen o

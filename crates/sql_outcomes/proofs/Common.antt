@@ -21,7 +21,7 @@ pub use Rattle.odata_checked_filter.specs.private.Layout.{Lies}
 pub use Rattle.filter_context.proofs.Children.{body_stands, one_there}
 pub use Rattle.filter_context.proofs.Extents.{further_in}
 pub use Rattle.filter_context.proofs.Parts.{found_there, goes_there, inside, some_there, there_found}
-pub use Rattle.filter_context.specs.Place.{HasKind}
+pub use Rattle.filter_context.specs.private.Place.{HasKind}
 pub use Rattle.odata_filter_operations.specs.ArgumentValues.{OfText, OfTextAndNumbers, OfTexts}
 pub use Rattle.odata_filter_operations.specs.CalculationGives.{CalculationGives, ComputesTo, NegatedGives, number_outcome, number_val}
 pub use Rattle.odata_filter_operations.specs.CallGives.{CallGives, UnlessNull, has_null}
@@ -46,7 +46,7 @@ pub use Rattle.odata_meaning.specs.EndsOnce.{EndsOnce, EndsOnceOnEntities, IsOut
 pub use Rattle.odata_meaning.specs.Environment.{IsFitting, bound_over, scope_of}
 pub use Rattle.odata_meaning.specs.Means.{ArgumentsMean, ItemMeans, Means}
 pub use Rattle.odata_meaning.specs.OperatorGives.{InType, OperatorGives, SidesGive}
-pub use Rattle.odata_meaning.specs.ReadGives.{GivesMember, UnlessRead}
+pub use Rattle.odata_meaning.specs.ReadGives.{GivesMember, OperandGives, UnlessRead}
 pub use Rattle.odata_ranges.proofs.Ends.{node_onward, stop_inside}
 pub use Rattle.odata_ranges.proofs.Forms.{StandsIn, TypedIn, inside_there, lies, stop_there, type_there}
 pub use Rattle.odata_ranges.proofs.KeptPaths.{ComesKept, IsPathType, tree_kept}

@@ -23,7 +23,7 @@ use Rattle.odata_signatures.specs.Laws.{OneLiteralValue}
 use Rattle.odata_signatures.specs.LiteralValue.{LiteralValue}
 use Rattle.odata_checked_filter.specs.Filter.{Filter, IsFilter, tree_of_filter}
 use Rattle.odata_checked_filter.specs.Stands.{IsValueOf, SideBySide}
-use Rattle.odata_signatures.specs.Reads.{OfEquality, ReadsNone}
+use Rattle.odata_signatures.specs.Reads.{OfEquality, ReadsNone, ReadsNumber}
 use Rattle.odata_signatures.specs.Sides.{Between}
 use Rattle.odata_signatures.specs.Typed.{OperandsTyped, Typed}
 use Rattle.odata_signatures.specs.OperatorTyped.{IsEquality, OperatorTyped}
@@ -39,10 +39,13 @@ use Rattle.odata_meaning.specs.LiteralGives.{LiteralGives}
 use Rattle.odata_meaning.specs.Means.{BinaryGives, Means}
 use Rattle.odata_meaning.specs.NameGives.{FieldGives}
 use Rattle.odata_meaning.specs.OperatorGives.{SidesGive}
+use Rattle.odata_meaning.specs.ReadGives.{OperandGives}
+use Rattle.odata_meaning.proofs.meaning.SameGives.{sides_both}
+use Rattle.odata_meaning.proofs.meaning.UnreadAlone.{operand_alone}
 use Rattle.odata_eval.specs.private.ValueTests.{AndsAbove, AreAllBut, Decides, GoesUp, IsFalseAt, IsNoNumber, IsTermSieve, IsTrueAt, IsValue, LeavesNoFault, StandsFor}
-use Rattle.filter_context.specs.Place.{HasKind, HasOperator, IsRightOf}
-use Rattle.filter_context.specs.EvalContext.{NumberHere}
-use Rattle.filter_context.specs.ContextModel.{ContextModel, context_in}
+use Rattle.filter_context.specs.private.Place.{HasKind, HasOperator, IsRightOf}
+use Rattle.filter_context.specs.private.EvalContext.{NumberHere}
+use Rattle.filter_context.specs.private.ContextModel.{ContextModel, context_in}
 use Rattle.odata_eval.proofs.walking.Leaves.{literal_own, number_held}
 use Rattle.filter_context.proofs.Operands.{ResolvedHere, no_number}
 use Rattle.filter_context.proofs.Parts.{by_kind, found_there, kind_there}
@@ -206,9 +209,12 @@ module _ (filter : Filter) where
   -- where no literal is read there
   binary_alone : (operator : BinaryOperator) (l r : Tree) (Left Right : Outcome → Type 0) → ReadsNone (slots_of filter.schema) (OfEquality operator (Side l)) r → ReadsNone (slots_of filter.schema) (OfEquality operator (Side r)) l
       → (o : Outcome) → BinaryGives (slots_of filter.schema) operator (Side l) (Side r) l r Left Right o → Sides operator l r Left Right o
-  binary_alone operator l r Left Right right left o (inl read) = absurd (right read.0 read.1)
-  binary_alone operator l r Left Right right left o (inr (none, inl read)) = absurd (left read.0 read.1)
-  binary_alone operator l r Left Right right left o (inr (none, inr (other, given))) = given
+  binary_alone operator l r Left Right right left o given =
+      let slots = slots_of filter.schema in
+      let N : ExprType → Type 0 = OfSides operator l r in
+      (sides_both operator N N (OperandGives (ReadsNumber slots (OfEquality operator (Side r)) l) Left) Left (OperandGives (ReadsNumber slots (OfEquality operator (Side l)) r) Right) Right
+      (λ type. (λ typed. typed, λ typed. typed)) (operand_alone (ReadsNumber slots (OfEquality operator (Side r)) l) Left left) (operand_alone (ReadsNumber slots (OfEquality operator (Side l)) r) Right right) o).0
+      given
 
   -- no literal that has a number stands there, if the operator is an equality
   abbrev NoneRead : MomentParts → BinaryOperator → ℕ → Type 0

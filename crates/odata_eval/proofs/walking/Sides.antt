@@ -4,8 +4,9 @@ use Rattle.edm_values.specs.Val.{Val, member}
 use Rattle.edm_values.specs.declared.datum.Datum.{Datum}
 use Rattle.odata_syntax.specs.Tree.{Tree, has, in_path, node}
 use Rattle.csdl_schema.specs.ExprType.{ExprType}
-use Rattle.csdl_schema.specs.SchemaModel.{slots_of}
+use Rattle.csdl_schema.specs.SchemaModel.{slots_of, type_name_at}
 use Rattle.edm_entities.specs.HasType.{HasType}
+use Rattle.edm_entities.specs.Row.{value_of}
 use Rattle.odata_functions.specs.DatumVal.{datum_val}
 use Rattle.odata_signatures.specs.CollectionTyped.{IsComparableWithMembers}
 use Rattle.odata_signatures.specs.HasTyped.{AreFlags}
@@ -21,13 +22,16 @@ use Rattle.odata_filter_operations.specs.LeftFirst.{After}
 use Rattle.odata_filter_operations.specs.Outcome.{Outcome, gives}
 use Rattle.odata_filter_operations.specs.FaultView.{fault_outcome}
 use Rattle.odata_filter_operations.specs.DatumView.{reading_at}
-use Rattle.filter_context.specs.Place.{HasKind, IsRightOf, OperandStands, PartStands}
-use Rattle.filter_context.specs.EvalContext.{EndsOnceHere, MeansHere, StandsHere, TypedHere}
-use Rattle.filter_context.specs.ContextModel.{ContextModel}
+use Rattle.filter_context.specs.private.Place.{HasKind, IsRightOf, OperandStands, PartStands}
+use Rattle.filter_context.specs.private.EvalContext.{EndsOnceHere, MeansHere, StandsHere, TypedHere}
+use Rattle.filter_context.specs.private.ContextModel.{ContextModel, environment_of}
 use Rattle.odata_eval.specs.private.WalkAnswer.{AnswersDatum}
-use Rattle.filter_context.specs.AnswersAtPlace.{AnswersAtPlace}
+use Rattle.filter_context.specs.private.AnswersAtPlace.{AnswersAtPlace}
 use Rattle.filter_context.proofs.Children.{two_children}
+use Rattle.odata_meaning.specs.ReadGives.{OperandGives}
 use Rattle.odata_meaning.proofs.meaning.Reads.{number_flags, read_has}
+use Rattle.odata_meaning.proofs.meaning.SameGives.{after_goes}
+use Rattle.odata_meaning.proofs.meaning.UnreadAlone.{flags_alone as unread_flags}
 use Rattle.filter_context.proofs.Operands.{ResolvedHere, HasNone, resolved_operand, fault_no_value, no_number, number_is}
 use Rattle.filter_context.proofs.Parts.{by_kind, reports_there}
 use Rattle.filter_context.proofs.Extents.{further, right_beside, stops_here, stops_there}
@@ -82,8 +86,11 @@ flags_sides context place here = (
         read = λ n reads.
             (reads.beside, number_flags slots reads.type_of (quoted_text right) n reads.number, read_has slots reads.type_of (quoted_text right) n reads.number);
         takes = child_takes (node from to (has left right)) right (second_child left right []);
-        means = λ none o given. inr (none, given);
-        means_read = λ n reads o given. inl (n, reads, given);
+        means = λ none o given. (unread_flags slots (type_name_at context.row.schema context.row.type_id) context.moment (value_of context.row) (environment_of context) from to left right o none).1 given;
+        means_read = λ n reads o given.
+            let Operand : Outcome → Type 0 = OperandGives (ReadsNumber slots (TypedHere context left) right) (MeansHere context right) in
+            after_goes (MeansHere context left) (MeansHere context left) (λ l. HasGives l (member n)) (λ l. After Operand (HasGives l)) (λ p is. is)
+            (λ l p goes. (gives (member n), (inl (n, reads, refl), goes))) o given;
       }),
 )
 

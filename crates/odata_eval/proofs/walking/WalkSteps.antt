@@ -2,12 +2,12 @@
 use Rattle.std.proofs.Common.{◌≡◌, ap, inl, inr, refl, sym, ℕ, ℤ, ◌+◌, [], Bool, Option, Some, Result, Ok, slice_get, subst}
 use Rattle.std.specs.Prelude.{IsSomeAnd}
 use Rattle.odata_checked_filter.specs.Calls.{TakesMemory}
-use Rattle.edm_values.specs.Val as val
 use Rattle.edm_values.specs.Val.{Val}
 use Rattle.odata_syntax.specs.Tree.{Tree, node, negation, binary}
 use Rattle.odata_syntax.specs.declared.binary_operator.BinaryOperator.{BinaryOperator}
 use Rattle.csdl_schema.specs.ExprType.{ExprType}
 use Rattle.csdl_schema.specs.SchemaModel.{SchemaModel, slots_of, type_name_at}
+use Rattle.edm_entities.specs.Row.{value_of}
 use Rattle.edm_entities.specs.HasType.{HasType}
 use Rattle.odata_functions.specs.Connectives.{not3}
 use Rattle.odata_syntax.specs.declared.binary_operator.ArithmeticOperator.{ArithmeticOperator}
@@ -18,7 +18,7 @@ use Rattle.odata_signatures.specs.Laws.{OneType}
 use Rattle.odata_signatures.specs.TypeView.{expr_type}
 use Rattle.odata_signatures.specs.ExprTypes.{boolean_type}
 use Rattle.odata_signatures.specs.OperatorTyped.{IsEquality, OperatorByTypes}
-use Rattle.odata_signatures.specs.Reads.{OfEquality, ReadsNone}
+use Rattle.odata_signatures.specs.Reads.{OfEquality, ReadsNone, ReadsNumber}
 use Rattle.odata_signatures.specs.Sides.{quoted_text, side_of}
 use Rattle.odata_filter_operations.specs.declared.eval_fault.EvalFault.{EvalFault}
 use Rattle.odata_filter_operations.specs.CalculationGives.{CalculationGives, NegatedGives, number_val}
@@ -31,16 +31,17 @@ use Rattle.odata_filter_operations.specs.TruthGives.{LogicalGives, JoinGives, jo
 use Rattle.odata_filter_operations.specs.FaultView.{fault_outcome}
 use Rattle.odata_filter_operations.specs.DatumView.{answer_outcome}
 use Rattle.odata_filter_operations.specs.Operators.{AreNumbers, IsOneNumber}
-use Rattle.filter_context.specs.Place.{HasKind, IsRightOf, PartStands}
-use Rattle.filter_context.specs.EvalContext.{EndsOnceHere, MeansHere, StandsHere, TypedHere}
-use Rattle.filter_context.specs.ContextModel.{ContextModel, environment_of}
+use Rattle.filter_context.specs.private.Place.{HasKind, IsRightOf, PartStands}
+use Rattle.filter_context.specs.private.EvalContext.{EndsOnceHere, MeansHere, StandsHere, TypedHere}
+use Rattle.filter_context.specs.private.ContextModel.{ContextModel, environment_of}
 use Rattle.odata_filter_operations.specs.Reports.{Reports}
 use Rattle.odata_eval.specs.private.WalkAnswer.{AnswersNumber, AnswersTruth}
-use Rattle.filter_context.specs.AnswersAtPlace.{AnswersAtPlace}
+use Rattle.filter_context.specs.private.AnswersAtPlace.{AnswersAtPlace}
 use Rattle.odata_meaning.specs.private.Decided.{IsDecided}
 use Rattle.odata_meaning.specs.private.LawsBelow.{Promotes}
 use Rattle.odata_meaning.proofs.meaning.Numbers.{calculated_values, negated_value}
-use Rattle.odata_meaning.specs.ReadGives.{GivesMember}
+use Rattle.odata_meaning.specs.ReadGives.{GivesMember, OperandGives}
+use Rattle.odata_meaning.proofs.meaning.UnreadAlone.{operands_alone}
 use Rattle.odata_meaning.proofs.meaning.Reads.{equality_typed, number_comparable, read_has}
 use Rattle.odata_meaning.proofs.meaning.Progress.{decided_gives, join_gives, not_gives, undecided_goes}
 use Rattle.filter_context.proofs.Children.{only_child}
@@ -155,7 +156,8 @@ module _ (context : ContextModel) (place : ℕ) where
           let alone = by_itself other (TypedHere context b) a (place + 1) m stands.children.left in
           let apart = by_itself other (TypedHere context a) b m stands.children.right.middle stands.children.right.left in
           reports_there (reported type) (TakesMemory whole) (TakesMemory whole) (OperatorGives operator (TypedHere context whole) (l typed.left) (MeansHere context b)) (MeansHere context whole) (λ takes. takes)
-          (λ o given. inr (apart.0, inr (alone.0, (gives (l typed.left), (first.of_tree m a typed.left alone.1 typed.left_typed, given)))))
+          (λ o given. (operands_alone (slots_of context.row.schema) (type_name_at context.row.schema context.row.type_id) context.moment (value_of context.row) (environment_of context) from to operator a b o
+          apart.0 alone.0).1 (gives (l typed.left), (first.of_tree m a typed.left alone.1 typed.left_typed, given)))
           (goes stop from to a b type stands typed))
           stop tree stands typed;
       of_number = λ number stop tree type there. absurd (no_number_here number stop tree there);
@@ -166,31 +168,34 @@ module _ (context : ContextModel) (place : ℕ) where
       module _ (l : ExprType → Val) (beside reported : ExprType → Option Outcome) (first : AnswersAtPlace context (place + 1) (λ type. Some (gives (l type)))) (second : AnswersAtPlace context right_place beside)
           (goes : (stop : ℕ) (whole : Tree) (s t type : ExprType) (Right : Outcome → Type 0) → StandsHere context place stop whole → TypedHere context whole type
           → Reports (TakesMemory whole) Right (beside t) → Reports (TakesMemory whole) (OperatorGives operator (TypedHere context whole) (l s) Right) (reported type)) where
+        -- the left side, by its number or by its tree
+        left_there : (a b : Tree) (m : ℕ) (s : ExprType) → TypedHere context a s → ResolvedHere context (OfEquality operator (TypedHere context b)) a (place + 1) m
+            → OperandGives (ReadsNumber (slots_of context.row.schema) (OfEquality operator (TypedHere context b)) a) (MeansHere context a) (gives (l s))
+        left_there a b m s typed (inl read) = inl (read.0, read.1, ap gives (number_is context (place + 1) m a read.0 l read.2 first s))
+        left_there a b m s typed (inr alone) = inr (alone.0, first.of_tree m a s alone.1 typed)
+
+        -- and the right one
+        right_reports : (whole a b : Tree) (stop : ℕ) (t : ExprType) → (TakesMemory b → TakesMemory whole) → TypedHere context b t → ResolvedHere context (OfEquality operator (TypedHere context a)) b right_place stop
+            → Reports (TakesMemory whole) (OperandGives (ReadsNumber (slots_of context.row.schema) (OfEquality operator (TypedHere context a)) b) (MeansHere context b)) (beside t)
+        right_reports whole a b stop t takes typed (inl read) =
+            reports_there (beside t) (TakesMemory whole) (TakesMemory whole) (GivesMember read.0)
+            (OperandGives (ReadsNumber (slots_of context.row.schema) (OfEquality operator (TypedHere context a)) b) (MeansHere context b)) (λ takes. takes) (λ o is. inl (read.0, read.1, is))
+            (subst (Reports (TakesMemory whole) (GivesMember read.0)) (sym (second.of_number read.0 stop b t read.2)) refl)
+        right_reports whole a b stop t takes typed (inr alone) =
+            reports_there (beside t) (TakesMemory b) (TakesMemory whole) (MeansHere context b)
+            (OperandGives (ReadsNumber (slots_of context.row.schema) (OfEquality operator (TypedHere context a)) b) (MeansHere context b)) takes (λ o is. inr (alone.0, is))
+            (second.of_tree stop b t alone.1 typed)
+
         sides_report : (stop from to : ℕ) (a b : Tree) (type : ExprType) → StandsHere context place stop (node from to (binary operator a b)) → TypedHere context (node from to (binary operator a b)) type
             → (m : ℕ) → ResolvedHere context (OfEquality operator (TypedHere context b)) a (place + 1) m → ResolvedHere context (OfEquality operator (TypedHere context a)) b right_place stop
             → Reports (TakesMemory (node from to (binary operator a b))) (MeansHere context (node from to (binary operator a b))) (reported type)
-        sides_report stop from to a b type stands typed m (inl read) (inl other) = absurd (not_both context operator a b read.0 other.0 read.1 other.1)
-        sides_report stop from to a b type stands typed m (inl read) (inr other) =
+        sides_report stop from to a b type stands typed m of_a of_b =
             let whole = node from to (binary operator a b) in
-            let is : l typed.left ≡ val.member read.0 = number_is context (place + 1) m a read.0 l read.2 first typed.left in
-            reports_there (reported type) (TakesMemory whole) (TakesMemory whole) (OperatorGives operator (TypedHere context whole) (l typed.left) (MeansHere context b)) (MeansHere context whole) (λ takes. takes)
-            (λ o given. inr (other.0, inl (read.0, read.1, (gives (l typed.left), (ap gives is, given)))))
-            (goes stop whole typed.left typed.right type (MeansHere context b) stands typed
-            (reports_there (beside typed.right) (TakesMemory b) (TakesMemory whole) (MeansHere context b) (MeansHere context b)
-            (child_takes whole b (second_child a b [])) (λ o is. is) (second.of_tree stop b typed.right other.1 typed.right_typed)))
-        sides_report stop from to a b type stands typed m (inr alone) (inl read) =
-            let whole = node from to (binary operator a b) in
-            reports_there (reported type) (TakesMemory whole) (TakesMemory whole) (OperatorGives operator (TypedHere context whole) (l typed.left) (GivesMember read.0)) (MeansHere context whole) (λ takes. takes)
-            (λ o given. inl (read.0, read.1, (gives (l typed.left), (first.of_tree m a typed.left alone.1 typed.left_typed, given))))
-            (goes stop whole typed.left typed.right type (GivesMember read.0) stands typed
-            (subst (Reports (TakesMemory whole) (GivesMember read.0)) (sym (second.of_number read.0 stop b typed.right read.2)) refl))
-        sides_report stop from to a b type stands typed m (inr alone) (inr other) =
-            let whole = node from to (binary operator a b) in
-            reports_there (reported type) (TakesMemory whole) (TakesMemory whole) (OperatorGives operator (TypedHere context whole) (l typed.left) (MeansHere context b)) (MeansHere context whole) (λ takes. takes)
-            (λ o given. inr (other.0, inr (alone.0, (gives (l typed.left), (first.of_tree m a typed.left alone.1 typed.left_typed, given)))))
-            (goes stop whole typed.left typed.right type (MeansHere context b) stands typed
-            (reports_there (beside typed.right) (TakesMemory b) (TakesMemory whole) (MeansHere context b) (MeansHere context b)
-            (child_takes whole b (second_child a b [])) (λ o is. is) (second.of_tree stop b typed.right other.1 typed.right_typed)))
+            let Right : Outcome → Type 0 = OperandGives (ReadsNumber (slots_of context.row.schema) (OfEquality operator (TypedHere context a)) b) (MeansHere context b) in
+            reports_there (reported type) (TakesMemory whole) (TakesMemory whole) (OperatorGives operator (TypedHere context whole) (l typed.left) Right) (MeansHere context whole) (λ takes. takes)
+            (λ o given. (gives (l typed.left), (left_there a b m typed.left typed.left_typed of_a, given)))
+            (goes stop whole typed.left typed.right type Right stands typed
+            (right_reports whole a b stop typed.right (child_takes whole b (second_child a b [])) typed.right_typed of_b))
 
         pub of_sides : AnswersAtPlace context place reported
         of_sides = record {

@@ -90,8 +90,8 @@ within_a_text root now =
       refl,
       (
         1,
-        paid (gives (boolean true)) 0 1 (inr (free _ _, inr (free _ _, (gives (text (codes "a")), (refl, (gives (text (codes "a")), (refl, (tt, (λ is. refl, λ is. refl))))))))) (alike_test root now (text (codes "a")) (text (codes "a")) refl)
-            (0, paid (gives (boolean false)) 0 0 (inr (free _ _, inr (free _ _, (gives null, (refl, (gives (text (codes "a")), (refl, (tt, (λ no. cc, λ no. absurd no))))))))) (alike_test root now (text (codes "a")) null refl) refl, refl),
+        paid (gives (boolean true)) 0 1 (gives (text (codes "a")), (inr (free _ _, refl), (gives (text (codes "a")), (inr (free _ _, refl), (tt, (λ is. refl, λ is. refl)))))) (alike_test root now (text (codes "a")) (text (codes "a")) refl)
+            (0, paid (gives (boolean false)) 0 0 (gives null, (inr (free _ _, refl), (gives (text (codes "a")), (inr (free _ _, refl), (tt, (λ no. cc, λ no. absurd no)))))) (alike_test root now (text (codes "a")) null refl) refl, refl),
         refl,
       ),
     )
@@ -101,7 +101,7 @@ within_a_null root now =
     paid (gives text_and_null) 0 1 refl refl (
       primitive PrimitiveType.String,
       refl,
-      (0, paid (gives (boolean false)) 0 0 (inr (free _ _, inr (free _ _, (gives (text (codes "a")), (refl, (gives null, (refl, (tt, (λ no. cc, λ no. absurd no))))))))) (alike_test root now null (text (codes "a")) refl) refl, refl),
+      (0, paid (gives (boolean false)) 0 0 (gives (text (codes "a")), (inr (free _ _, refl), (gives null, (inr (free _ _, refl), (tt, (λ no. cc, λ no. absurd no)))))) (alike_test root now null (text (codes "a")) refl) refl, refl),
     )
 
 pub within : CostsOnTags text_and_null (over_tags Quantifier.Any all_alike) 5
@@ -207,7 +207,7 @@ long_texts s long root now =
       refl,
       (
         4,
-        paid (gives (boolean true)) 4 0 (inr (free _ _, inr (free _ _, (gives (text s), (refl, (gives (text s), (refl, (tt, (λ is. refl, λ is. refl)))))))))
+        paid (gives (boolean true)) 4 0 (gives (text s), (inr (free _ _, refl), (gives (text s), (inr (free _ _, refl), (tt, (λ is. refl, λ is. refl))))))
             (long_alike root now s long) refl,
         refl,
       ),
@@ -223,23 +223,23 @@ Doubled s = text (encode_utf8_all (chars s ++ chars s))
 doubled_means : (root : List ℕ) (now : MomentParts) (s : List ℕ) → Means tagged_slots root now (OnLong s) (At (text s)) doubled (gives (Doubled s))
 doubled_means root now s = record { function = Function.Concat; named = refl; given = (gives (text s), (refl, (gives (text s), (refl, refl)))) }
 
-doubled_costs : (root : List ℕ) (now : MomentParts) (s : List ℕ) → length s ≡ 2048 → Costs tagged_slots root now (OnLong s) (At (text s)) doubled 68
+doubled_costs : (root : List ℕ) (now : MomentParts) (s : List ℕ) → length s ≡ 2048 → Costs tagged_slots root now (OnLong s) (At (text s)) doubled 96
 doubled_costs root now s long =
-    paid (gives (text s)) 0 68 refl refl (paid (gives (text s)) 0 68 refl refl (record {
+    paid (gives (text s)) 0 96 refl refl (paid (gives (text s)) 0 96 refl refl (record {
       function = Function.Concat;
       named = refl;
-      is = subst (λ (n : ℕ). 68 ≡ n / 1024 + (n / 1024 + 0) + 16 * ((n + n) / 1024)) (sym long) refl;
+      is = subst (λ (n : ℕ). 96 ≡ 8 * (n / 1024 + (n / 1024 + 0)) + 16 * ((n + n) / 1024)) (sym long) refl;
     }))
 
-pub made_texts : (s : List ℕ) → length s ≡ 2048 → CostsOnTags (items (item (text s) no_items)) (over_tags Quantifier.Any doubled_is_null) 69
+pub made_texts : (s : List ℕ) → length s ≡ 2048 → CostsOnTags (items (item (text s) no_items)) (over_tags Quantifier.Any doubled_is_null) 97
 made_texts s long root now =
-    paid (gives (items (item (text s) no_items))) 0 69 refl refl (
+    paid (gives (items (item (text s) no_items))) 0 97 refl refl (
       primitive PrimitiveType.String,
       refl,
       (
-        68,
-        paid (gives (boolean false)) 68 0 (inr (free _ _, inr (free _ _, (gives (Doubled s), (doubled_means root now s, (gives null, (tt, (tt, (λ no. cc, λ no. absurd no)))))))))
-            (paid (gives (Doubled s)) 68 0 (doubled_means root now s) (doubled_costs root now s long) (paid (gives null) 0 0 tt refl refl)) refl,
+        96,
+        paid (gives (boolean false)) 96 0 (gives (Doubled s), (inr (free _ _, doubled_means root now s), (gives null, (inr (free _ _, tt), (tt, (λ no. cc, λ no. absurd no))))))
+            (paid (gives (Doubled s)) 96 0 (doubled_means root now s) (doubled_costs root now s long) (paid (gives null) 0 0 tt refl refl)) refl,
         refl,
       ),
     )

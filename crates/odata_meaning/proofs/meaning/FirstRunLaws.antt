@@ -56,44 +56,40 @@ joins false = refl
 -- the first item by any name, as this compares
 named_item : OneEach → (title : List ℕ) (answer : Bool) → (IsTrue answer ↔ ComparesTrue ComparisonOperator.Eq (text title) (text (codes "a")))
     → ComesTo first_run_tree (item_value (pos 1) title true) (gives (boolean answer))
-named_item known title answer compared = comes_to known first_run_tree (item_value (pos 1) title true) (gives (boolean answer)) (λ slots root now none.
+named_item known title answer compared = comes_to known first_run_tree (item_value (pos 1) title true) (gives (boolean answer)) (λ slots root now none. (
+  gives (boolean true),
+  (
     inr (
       unread slots none _ _,
-      inr (
-        unread slots none _ _,
+      (
+        gives (boolean true),
         (
-          gives (boolean true),
+          inr (unread slots none _ _, refl),
           (
-            inr (
-              unread slots none _ _,
+            gives (boolean true),
+            (
               inr (
                 unread slots none _ _,
-                (
-                  gives (boolean true),
-                  (
-                    refl,
-                    (
-                      gives (boolean true),
-                      (
-                        inr (unread slots none _ _, inr (unread slots none _ _, (gives (whole (pos 1)), (refl, (gives (whole (pos 1)), (one, (tt, (λ _. refl, λ _. refl)))))))),
-                        refl,
-                      ),
-                    ),
-                  ),
-                ),
+                (gives (whole (pos 1)), (inr (unread slots none _ _, refl), (gives (whole (pos 1)), (inr (unread slots none _ _, one), (tt, (λ _. refl, λ _. refl)))))),
               ),
-            ),
-            (
-              gives (boolean answer),
-              (
-                inr (unread slots none _ _, inr (unread slots none _ _, (gives (text title), (refl, (gives (text (codes "a")), ((refl, letter), (tt, compared))))))),
-                joins answer,
-              ),
+              refl,
             ),
           ),
         ),
       ),
-    ))
+    ),
+    (
+      gives (boolean answer),
+      (
+        inr (
+          unread slots none _ _,
+          (gives (text title), (inr (unread slots none _ _, refl), (gives (text (codes "a")), (inr (unread slots none _ _, (refl, letter)), (tt, compared))))),
+        ),
+        joins answer,
+      ),
+    ),
+  ),
+))
 
 pub kept_item : OneEach → ComesTo first_run_tree (item_value (pos 1) (codes "a") true) (gives (boolean true))
 kept_item known = named_item known (codes "a") true (λ _. refl, λ _. refl)
@@ -108,9 +104,9 @@ other_item known = named_item known (codes "b") false (λ no. cc, λ same. other
 
 pub inactive_item : OneEach → ComesTo first_run_tree (item_value (pos 2) (codes "a") false) (gives (boolean false))
 inactive_item known = comes_to known first_run_tree (item_value (pos 2) (codes "a") false) (gives (boolean false)) (λ slots root now none.
-    inr (unread slots none _ _, inr (unread slots none _ _, (gives (boolean false), (inr (unread slots none _ _, inr (unread slots none _ _, (gives (boolean false), (refl, refl)))), refl)))))
+    (gives (boolean false), (inr (unread slots none _ _, (gives (boolean false), (inr (unread slots none _ _, refl), refl))), refl)))
 
 -- no logical operator has its operands read
 pub right_side_unread : OneEach → (slots : Slots) (value : Val) → ComesToIn slots false_and_missing value (gives (boolean false))
 right_side_unread known slots value = in_slots known slots false_and_missing value (gives (boolean false)) (λ root now.
-    inr (λ n reads. reads.beside.0, inr (λ n reads. reads.beside.0, (gives (boolean false), (refl, refl)))))
+    (gives (boolean false), (inr (λ n reads. reads.beside.0, refl), refl)))

@@ -63,10 +63,10 @@ over_list known quantifier body values outcome go =
 -- ---- with `t eq null` for a body
 
 pub text_is_null : (root : List ℕ) (now : MomentParts) (tags : Val) → Body root now tags [] (codes "t") is_null (text (codes "a")) (gives (boolean false))
-text_is_null root now tags = inr (free _ _, inr (free _ _, (gives (text (codes "a")), (refl, (gives null, (tt, (tt, (λ no. cc, λ no. absurd no))))))))
+text_is_null root now tags = (gives (text (codes "a")), (inr (free _ _, refl), (gives null, (inr (free _ _, tt), (tt, (λ no. cc, λ no. absurd no))))))
 
 pub null_is_null : (root : List ℕ) (now : MomentParts) (tags : Val) → Body root now tags [] (codes "t") is_null null (gives (boolean true))
-null_is_null root now tags = inr (free _ _, inr (free _ _, (gives null, (refl, (gives null, (tt, (tt, (λ is. tt, λ is. refl))))))))
+null_is_null root now tags = (gives null, (inr (free _ _, refl), (gives null, (inr (free _ _, tt), (tt, (λ is. tt, λ is. refl))))))
 
 -- the second member decides `any`, the first one `all`
 pub some_null : OneEach → ComesToOn text_and_null (over_tags Quantifier.Any is_null) (gives (boolean true))
@@ -126,37 +126,30 @@ none = (inr (inr (numeral_zero, refl)), fits_zero)
 
 pub divides : (root : List ℕ) (now : MomentParts) (tags : Val) (environment : Environment) → Means tagged_slots root now (tagged tags) environment one_div_zero divides_by_zero
 divides root now tags environment =
-    let int32 : ExprType = single (primitive PrimitiveType.Int32) in
-    inr (
-      free _ _,
-      inr (
-        free _ _,
+    let int32 : ExprType = single (primitive PrimitiveType.Int32) in (
+      gives (whole (pos 1)),
+      (
+        inr (free _ _, one),
         (
-          gives (whole (pos 1)),
+          gives (whole (pos 0)),
           (
-            one,
+            inr (free _ _, none),
             (
-              gives (whole (pos 0)),
-              (
-                none,
-                (
-                  int32,
-                  record {
-                    left = int32;
-                    right = int32;
-                    left_typed = (pos 1, one, (PrimitiveType.Int32, inl (small_one, refl), refl));
-                    right_typed = (pos 0, none, (PrimitiveType.Int32, inl (small_zero, refl), refl));
-                    makes = inl (record {
-                      left_number = Some PrimitiveType.Int32;
-                      right_number = Some PrimitiveType.Int32;
-                      left_is = (tt, refl);
-                      right_is = (tt, refl);
-                      type_is = refl;
-                    });
-                  },
-                  (Err ArithFault.DivideByZero, (tt, refl), refl),
-                ),
-              ),
+              int32,
+              record {
+                left = int32;
+                right = int32;
+                left_typed = (pos 1, one, (PrimitiveType.Int32, inl (small_one, refl), refl));
+                right_typed = (pos 0, none, (PrimitiveType.Int32, inl (small_zero, refl), refl));
+                makes = inl (record {
+                  left_number = Some PrimitiveType.Int32;
+                  right_number = Some PrimitiveType.Int32;
+                  left_is = (tt, refl);
+                  right_is = (tt, refl);
+                  type_is = refl;
+                });
+              },
+              (Err ArithFault.DivideByZero, (tt, refl), refl),
             ),
           ),
         ),
@@ -212,15 +205,15 @@ within_text root now =
     within root now (text (codes "a")) (
       gives (boolean true),
       (
-        inr (free _ _, inr (free _ _, (gives (text (codes "a")), (refl, (gives (text (codes "a")), (refl, (tt, (λ is. refl, λ is. refl)))))))),
-        (gives (boolean false), (inr (free _ _, inr (free _ _, (gives null, (refl, (gives (text (codes "a")), (refl, (tt, (λ no. cc, λ no. absurd no)))))))), refl)),
+        (gives (text (codes "a")), (inr (free _ _, refl), (gives (text (codes "a")), (inr (free _ _, refl), (tt, (λ is. refl, λ is. refl)))))),
+        (gives (boolean false), ((gives null, (inr (free _ _, refl), (gives (text (codes "a")), (inr (free _ _, refl), (tt, (λ no. cc, λ no. absurd no)))))), refl)),
       ),
     )
 
 pub within_null : (root : List ℕ) (now : MomentParts) → Body root now text_and_null [] (codes "t") all_alike null (gives (boolean false))
 within_null root now =
     within root now null
-    (gives (boolean false), (inr (free _ _, inr (free _ _, (gives (text (codes "a")), (refl, (gives null, (refl, (tt, (λ no. cc, λ no. absurd no)))))))), refl))
+    (gives (boolean false), ((gives (text (codes "a")), (inr (free _ _, refl), (gives null, (inr (free _ _, refl), (tt, (λ no. cc, λ no. absurd no)))))), refl))
 
 pub outer_variable : OneEach → ComesToOn text_and_null (over_tags Quantifier.Any all_alike) (gives (boolean false))
 outer_variable known = over_list known Quantifier.Any all_alike (item (text (codes "a")) (item null no_items)) (gives (boolean false)) (λ root now.

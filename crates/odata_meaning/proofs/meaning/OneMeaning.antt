@@ -28,7 +28,7 @@ use Rattle.odata_meaning.specs.NameGives.{StepGives}
 use Rattle.odata_meaning.specs.OneByOne.{ItemAlone}
 use Rattle.odata_meaning.specs.OperatorGives.{InType, OperatorGives, SidesGive}
 use Rattle.odata_filter_operations.specs.Outcome.{Outcome, gives}
-use Rattle.odata_meaning.specs.ReadGives.{GivesMember, UnlessRead}
+use Rattle.odata_meaning.specs.ReadGives.{GivesMember, OperandGives, UnlessRead}
 use Rattle.odata_filter_operations.specs.TruthGives.{NotGives}
 use Rattle.odata_meaning.proofs.meaning.AllTrees.{AllTrees}
 use Rattle.odata_meaning.proofs.meaning.CallLaws.{CallGives-one}
@@ -67,6 +67,11 @@ ReadsNumber-one known slots OtherSide tree one m n p q =
     ResolvedNumber-one known slots p.type_of (quoted_text tree) m n p.number
     (subst (λ (t : ExprType). ResolvedNumber slots t (quoted_text tree) n) (one q.type_of p.type_of q.beside p.beside) q.number)
 
+OperandGives-one : (known : OneEach) (slots : Slots) (OtherSide : ExprType → Type 0) (tree : Tree) (Alone : Outcome → Type 0) → ((s t : ExprType) → OtherSide s → OtherSide t → s ≡ t) → AtMostOne Alone
+    → AtMostOne (OperandGives (ReadsNumber slots OtherSide tree) Alone)
+OperandGives-one known slots OtherSide tree Alone one alone =
+    UnlessRead-one (ReadsNumber slots OtherSide tree) GivesMember Alone (ReadsNumber-one known slots OtherSide tree one) (λ n. same_one (gives (val.member n))) alone
+
 SidesGive-one : (known : OneEach) (operator : BinaryOperator) (N : ExprType → Type 0) (Left Right : Outcome → Type 0) → ((s t : ExprType) → N s → N t → s ≡ t) → AtMostOne Left → AtMostOne Right
     → AtMostOne (SidesGive operator N Left Right)
 SidesGive-one known operator N Left Right one left right =
@@ -100,23 +105,17 @@ module _ (known : OneEach) (slots : Slots) (root : List ℕ) (now : MomentParts)
         let Left : Outcome → Type 0 = Means slots root now entity environment left in
         let Right : Outcome → Type 0 = Means slots root now entity environment right in
         let one : (s t : ExprType) → N s → N t → s ≡ t = λ s t p q. known.types slots root (scope_of environment) (node 0 0 (binary operator left right)) s t p q in
-        UnlessRead-one (ReadsNumber slots (OfEquality operator L) right) (λ n. SidesGive operator N Left (GivesMember n))
-        (UnlessRead (ReadsNumber slots (OfEquality operator R) left) (λ n. SidesGive operator N (GivesMember n) Right) (SidesGive operator N Left Right))
-        (ReadsNumber-one known slots (OfEquality operator L) right (λ s t p q. known.types slots root (scope_of environment) left s t p.1 q.1))
-        (λ n. SidesGive-one known operator N Left (GivesMember n) one (Means-one environment left) (same_one (gives (val.member n))))
-        (UnlessRead-one (ReadsNumber slots (OfEquality operator R) left) (λ n. SidesGive operator N (GivesMember n) Right) (SidesGive operator N Left Right)
-        (ReadsNumber-one known slots (OfEquality operator R) left (λ s t p q. known.types slots root (scope_of environment) right s t p.1 q.1))
-        (λ n. SidesGive-one known operator N (GivesMember n) Right one (same_one (gives (val.member n))) (Means-one environment right))
-        (SidesGive-one known operator N Left Right one (Means-one environment left) (Means-one environment right)))
+        SidesGive-one known operator N (OperandGives (ReadsNumber slots (OfEquality operator R) left) Left) (OperandGives (ReadsNumber slots (OfEquality operator L) right) Right) one
+        (OperandGives-one known slots (OfEquality operator R) left Left (λ s t p q. known.types slots root (scope_of environment) right s t p.1 q.1) (Means-one environment left))
+        (OperandGives-one known slots (OfEquality operator L) right Right (λ s t p q. known.types slots root (scope_of environment) left s t p.1 q.1) (Means-one environment right))
     ShapeMeans-one environment (has left right) =
         let L : ExprType → Type 0 = Typed slots root (scope_of environment) left in
         let Left : Outcome → Type 0 = Means slots root now entity environment left in
         let Right : Outcome → Type 0 = Means slots root now entity environment right in
-        UnlessRead-one (ReadsNumber slots L right) (λ n. After Left (λ l. HasGives l (val.member n))) (After Left (λ l. After Right (HasGives l)))
-        (ReadsNumber-one known slots L right (λ s t p q. known.types slots root (scope_of environment) left s t p q))
-        (λ n. After-one Left (λ l. HasGives l (val.member n)) (Means-one environment left) (λ l. HasGives-one l (val.member n)))
-        (After-one Left (λ l. After Right (HasGives l)) (Means-one environment left)
-        (λ l. After-one Right (HasGives l) (Means-one environment right) (HasGives-one l)))
+        let Operand : Outcome → Type 0 = OperandGives (ReadsNumber slots L right) Right in
+        After-one Left (λ l. After Operand (HasGives l)) (Means-one environment left)
+        (λ l. After-one Operand (HasGives l)
+        (OperandGives-one known slots L right Right (λ s t p q. known.types slots root (scope_of environment) left s t p q) (Means-one environment right)) (HasGives-one l))
     ShapeMeans-one environment (in_list left items) =
         let L : ExprType → Type 0 = Typed slots root (scope_of environment) left in
         After-one (Means slots root now entity environment left)
@@ -149,8 +148,7 @@ module _ (known : OneEach) (slots : Slots) (root : List ℕ) (now : MomentParts)
         → AllTrees (λ tree. AtMostOne (ItemAlone slots root now entity environment (Typed slots root (scope_of environment) left) tree)) items
     items_one environment left no_trees = tt
     items_one environment left (more_trees tree more) = (
-      UnlessRead-one (ReadsNumber slots (Typed slots root (scope_of environment) left) tree) GivesMember (Means slots root now entity environment tree)
-          (ReadsNumber-one known slots (Typed slots root (scope_of environment) left) tree (λ s t p q. known.types slots root (scope_of environment) left s t p q))
-          (λ n. same_one (gives (val.member n))) (Means-one environment tree),
+      OperandGives-one known slots (Typed slots root (scope_of environment) left) tree (Means slots root now entity environment tree)
+          (λ s t p q. known.types slots root (scope_of environment) left s t p q) (Means-one environment tree),
       items_one environment left more,
     )

@@ -26,7 +26,7 @@ use Rattle.odata_signatures.specs.LiteralValue.{LiteralTyped, IntTyped}
 use Rattle.odata_signatures.specs.HasTyped.{HasTyped}
 use Rattle.odata_signatures.specs.OperatorTyped.{OperatorByTypes, NotTyped, OperatorTyped}
 use Rattle.odata_signatures.specs.QuotedNumber.{ResolvedNumber}
-use Rattle.odata_signatures.specs.Reads.{ReadsNumber}
+use Rattle.odata_signatures.specs.Reads.{OfEquality, ReadsNumber}
 use Rattle.odata_signatures.specs.Sides.{Between, quoted_text, side_of, sides_of}
 use Rattle.odata_signatures.specs.Typed.{AreTyped, OperandsTyped, Scope, Typed}
 use Rattle.odata_filter_operations.specs.CalculationGives.{CalculationGives, NegatedGives, number_outcome}
@@ -41,7 +41,7 @@ use Rattle.odata_meaning.specs.NameGives.{StepGives, FieldGives}
 use Rattle.odata_meaning.specs.OneByOne.{ItemAlone}
 use Rattle.odata_meaning.specs.OperatorGives.{InType, OperatorGives, SidesGive}
 use Rattle.odata_filter_operations.specs.Outcome.{Outcome, gives}
-use Rattle.odata_meaning.specs.ReadGives.{GivesMember, UnlessRead}
+use Rattle.odata_meaning.specs.ReadGives.{OperandGives}
 use Rattle.odata_filter_operations.specs.TruthGives.{LogicalGives, JoinGives, NotGives, joined, truth_val}
 use Rattle.odata_filter_operations.specs.Operators.{AreNumbers, IsOneNumber}
 use Rattle.odata_meaning.specs.private.Decided.{IsDecided}
@@ -193,71 +193,69 @@ sides_end some promotes slots operator NodeTyped left right type Left Right make
 abbrev pub ReadsHave : Slots → Slots → Type 0
 ReadsHave slots held = (type : ExprType) (quoted : Option (List ℕ)) (n : ℤ) → ResolvedNumber slots type quoted n → HasType held type (member n)
 
+-- an operand that is not read ends as its tree does, and one that is read with its number
+operand_ends : (held : Slots) (type : ExprType) (Reads : ℤ → Type 0) (Alone : Outcome → Type 0) → ((n : ℤ) → ¬ Reads n) → Ends held type Alone → Ends held type (OperandGives Reads Alone)
+operand_ends held type Reads Alone none ends = (ends.0, (inr (none, ends.1.0), ends.1.1))
+
+number_ends : (held : Slots) (type : ExprType) (Reads : ℤ → Type 0) (Alone : Outcome → Type 0) (n : ℤ) → Reads n → HasType held type (member n) → Ends held type (OperandGives Reads Alone)
+number_ends held type Reads Alone n reads has = (gives (member n), (inl (n, reads, refl), has))
+
 pub binary_ends : (some : SomeEach) (promotes : Promotes) (slots held : Slots) → ReadsHave slots held → (root : List ℕ) (scope : Scope) (operator : BinaryOperator) (left right : Tree) (Left Right : Outcome → Type 0) (type : ExprType)
     → (typed : OperandsTyped (Typed slots root scope left) (Typed slots root scope right) (Between (OperatorTyped slots operator) left right) type)
     → Ends held typed.left Left → Ends held typed.right Right
     → Ends held type (BinaryGives slots operator (Typed slots root scope left) (Typed slots root scope right) left right Left Right)
-binary_ends some promotes slots held reads_have root scope operator left right Left Right type typed of_left of_right = elim typed.makes [
-  | inl plain ↦
-      let N : ExprType → Type 0 = OperandsTyped (Typed slots root scope left) (Typed slots root scope right) (Between (OperatorTyped slots operator) left right) in
-      let ends = sides_end some promotes held operator N typed.left typed.right type Left Right plain typed of_left of_right in (
-        ends.0,
-        (
-          inr (
-            right_unread some.reads slots root scope operator left right typed.left typed.right type typed.left_typed typed.right_typed plain,
-            inr (left_unread some.reads slots root scope operator left right typed.left typed.right type typed.left_typed typed.right_typed plain, ends.1.0),
-          ),
-          ends.1.1,
-        ),
-      )
-  | inr read ↦ elim read.0.1 [
-    | inl number ↦
-        let N : ExprType → Type 0 = OperandsTyped (Typed slots root scope left) (Typed slots root scope right) (Between (OperatorTyped slots operator) left right) in
-        let quoted = quoted_text right in
-        let makes = equality_typed operator typed.left typed.left type read.0.0 (number_comparable slots typed.left quoted number.0 number.1) read.1 in
-        let ends = sides_end some promotes held operator N typed.left typed.left type Left (GivesMember number.0) makes typed of_left
-        (gives (member number.0), (refl, reads_have typed.left quoted number.0 number.1)) in
-        (ends.0, (inl (number.0, record { type_of = typed.left; beside = (read.0.0, typed.left_typed); number = number.1 }, ends.1.0), ends.1.1))
-    | inr number ↦
-        let N : ExprType → Type 0 = OperandsTyped (Typed slots root scope left) (Typed slots root scope right) (Between (OperatorTyped slots operator) left right) in
-        let quoted = quoted_text left in
-        let makes = equality_typed operator typed.right typed.right type read.0.0 (number_comparable slots typed.right quoted number.0 number.1) read.1 in
-        let ends = sides_end some promotes held operator N typed.right typed.right type (GivesMember number.0) Right makes typed
-        (gives (member number.0), (refl, reads_have typed.right quoted number.0 number.1)) of_right in (
-          ends.0,
-          (
-            inr (
-              other_unread some.reads slots root scope operator left right typed.left typed.right number.0 typed.left_typed typed.right_typed number.1,
-              inl (number.0, record { type_of = typed.right; beside = (read.0.0, typed.right_typed); number = number.1 }, ends.1.0),
-            ),
-            ends.1.1,
-          ),
-        )
-  ]
-]
+binary_ends some promotes slots held reads_have root scope operator left right Left Right type typed of_left of_right =
+    let N : ExprType → Type 0 = OperandsTyped (Typed slots root scope left) (Typed slots root scope right) (Between (OperatorTyped slots operator) left right) in
+    let LeftReads : ℤ → Type 0 = ReadsNumber slots (OfEquality operator (Typed slots root scope right)) left in
+    let RightReads : ℤ → Type 0 = ReadsNumber slots (OfEquality operator (Typed slots root scope left)) right in
+    elim typed.makes [
+      | inl plain ↦
+          sides_end some promotes held operator N typed.left typed.right type (OperandGives LeftReads Left) (OperandGives RightReads Right) plain typed
+          (operand_ends held typed.left LeftReads Left
+          (left_unread some.reads slots root scope operator left right typed.left typed.right type typed.left_typed typed.right_typed plain) of_left)
+          (operand_ends held typed.right RightReads Right
+          (right_unread some.reads slots root scope operator left right typed.left typed.right type typed.left_typed typed.right_typed plain) of_right)
+      | inr read ↦ elim read.0.1 [
+        | inl number ↦
+            let quoted = quoted_text right in
+            let makes = equality_typed operator typed.left typed.left type read.0.0 (number_comparable slots typed.left quoted number.0 number.1) read.1 in
+            sides_end some promotes held operator N typed.left typed.left type (OperandGives LeftReads Left) (OperandGives RightReads Right) makes typed
+            (operand_ends held typed.left LeftReads Left
+            (other_unread some.reads slots root scope operator right left typed.right typed.left number.0 typed.right_typed typed.left_typed number.1) of_left)
+            (number_ends held typed.left RightReads Right number.0 (record { type_of = typed.left; beside = (read.0.0, typed.left_typed); number = number.1 })
+            (reads_have typed.left quoted number.0 number.1))
+        | inr number ↦
+            let quoted = quoted_text left in
+            let makes = equality_typed operator typed.right typed.right type read.0.0 (number_comparable slots typed.right quoted number.0 number.1) read.1 in
+            sides_end some promotes held operator N typed.right typed.right type (OperandGives LeftReads Left) (OperandGives RightReads Right) makes typed
+            (number_ends held typed.right LeftReads Left number.0 (record { type_of = typed.right; beside = (read.0.0, typed.right_typed); number = number.1 })
+            (reads_have typed.right quoted number.0 number.1))
+            (operand_ends held typed.right RightReads Right
+            (other_unread some.reads slots root scope operator left right typed.left typed.right number.0 typed.left_typed typed.right_typed number.1) of_right)
+      ]
+    ]
 
 pub flags_ends : (some : SomeEach) (slots held : Slots) → ReadsHave slots held → (root : List ℕ) (scope : Scope) (left right : Tree) (Left Right : Outcome → Type 0) (type : ExprType)
     → (typed : OperandsTyped (Typed slots root scope left) (Typed slots root scope right) (Between (HasTyped slots) left right) type)
     → Ends held typed.left Left → Ends held typed.right Right
-    → Ends held type (UnlessRead (ReadsNumber slots (Typed slots root scope left) right) (λ n. After Left (λ l. HasGives l (member n))) (After Left (λ l. After Right (HasGives l))))
-flags_ends some slots held reads_have root scope left right Left Right type typed of_left of_right = elim typed.makes.0 [
-  | inl flags ↦
-      let ends = after_ends held held typed.left type Left (λ l. After Right (HasGives l)) of_left
-      (λ l of_l. after_ends held held typed.right type Right (HasGives l) of_right
-      (λ r of_r. has_ends some held typed.left typed.right type l r (flags, typed.makes.1) of_l of_r)) in (
-        ends.0,
-        (
-          inr ((λ n reads. flags_apart some.reads slots root scope left right typed.left typed.right n typed.left_typed typed.right_typed reads flags), ends.1.0),
-          ends.1.1,
-        ),
-      )
-  | inr number ↦
-      let quoted = quoted_text right in
-      let ends = after_ends held held typed.left type Left (λ l. HasGives l (member number.0)) of_left
-      (λ l of_l. has_ends some held typed.left typed.left type l (member number.0) (number_flags slots typed.left quoted number.0 number.1, typed.makes.1) of_l
-      (reads_have typed.left quoted number.0 number.1)) in
-      (ends.0, (inl (number.0, record { type_of = typed.left; beside = typed.left_typed; number = number.1 }, ends.1.0), ends.1.1))
-]
+    → Ends held type (After Left (λ l. After (OperandGives (ReadsNumber slots (Typed slots root scope left) right) Right) (HasGives l)))
+flags_ends some slots held reads_have root scope left right Left Right type typed of_left of_right =
+    let Reads : ℤ → Type 0 = ReadsNumber slots (Typed slots root scope left) right in
+    elim typed.makes.0 [
+      | inl flags ↦
+          let of_operand = operand_ends held typed.right Reads Right
+          (λ n reads. flags_apart some.reads slots root scope left right typed.left typed.right n typed.left_typed typed.right_typed reads flags) of_right in
+          after_ends held held typed.left type Left (λ l. After (OperandGives Reads Right) (HasGives l)) of_left
+          (λ l of_l. after_ends held held typed.right type (OperandGives Reads Right) (HasGives l) of_operand
+          (λ r of_r. has_ends some held typed.left typed.right type l r (flags, typed.makes.1) of_l of_r))
+      | inr number ↦
+          let quoted = quoted_text right in
+          let of_operand = number_ends held typed.left Reads Right number.0 (record { type_of = typed.left; beside = typed.left_typed; number = number.1 })
+          (reads_have typed.left quoted number.0 number.1) in
+          after_ends held held typed.left type Left (λ l. After (OperandGives Reads Right) (HasGives l)) of_left
+          (λ l of_l. after_ends held held typed.left type (OperandGives Reads Right) (HasGives l) of_operand
+          (λ r of_r. has_ends some held typed.left typed.left type l r (number_flags slots typed.left quoted number.0 number.1, typed.makes.1) of_l of_r))
+    ]
 
 -- each item beside the operand on the left
 item_ends : (some : SomeEach) (slots held : Slots) → ReadsHave slots held → (root : List ℕ) (now : MomentParts) (entity : Val) (environment : Environment) (left : Tree) (s : ExprType) (item : Tree) (t : ExprType)

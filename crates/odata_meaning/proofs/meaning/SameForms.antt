@@ -37,7 +37,7 @@ use Rattle.odata_meaning.specs.NameGives.{StepGives}
 use Rattle.odata_meaning.specs.OneByOne.{ItemAlone}
 use Rattle.odata_meaning.specs.OperatorGives.{InType, SidesGive}
 use Rattle.odata_filter_operations.specs.Outcome.{Outcome}
-use Rattle.odata_meaning.specs.ReadGives.{GivesMember, UnlessRead}
+use Rattle.odata_meaning.specs.ReadGives.{GivesMember, OperandGives}
 use Rattle.odata_meaning.specs.SameMeaning.{HaveOneMeaning, NormalFormsKeepOutcomes, CanonicalTextsKeepOutcomes}
 use Rattle.odata_filter_operations.specs.TruthGives.{NotGives}
 use Rattle.odata_meaning.proofs.meaning.AllTrees.{AllPaired}
@@ -107,6 +107,13 @@ module _ (kept : KeptForms) (slots : Slots) (root : List ℕ) (now : MomentParts
     not_same : (operand other : Tree) → Both (M environment operand) (M environment other) → Both (S environment (logical_not operand)) (S environment (logical_not other))
     not_same operand other same = after_both (M environment operand) (M environment other) NotGives NotGives same (λ v. itself (NotGives v))
 
+    -- operands that evaluate to the same beside operands of the same types
+    operand_same : (B C : ExprType → Type 0) (tree other : Tree) → BothTyped B C → quoted_text tree ≡ quoted_text other → Both (M environment tree) (M environment other)
+        → Both (OperandGives (ReadsNumber slots B tree) (M environment tree)) (OperandGives (ReadsNumber slots C other) (M environment other))
+    operand_same B C tree other typed quotes same =
+        unless_both (ReadsNumber slots B tree) (ReadsNumber slots C other) GivesMember GivesMember (M environment tree) (M environment other)
+        (reads_both slots B C tree other typed quotes) (λ n. itself (GivesMember n)) same
+
     binary_same : (operator : BinaryOperator) (l r m s : Tree) → Both (M environment l) (M environment m) → Both (M environment r) (M environment s)
         → BothTyped (T environment l) (T environment m) → BothTyped (T environment r) (T environment s) → quoted_text l ≡ quoted_text m → quoted_text r ≡ quoted_text s
         → Both (S environment (binary operator l r)) (S environment (binary operator m s))
@@ -116,18 +123,12 @@ module _ (kept : KeptForms) (slots : Slots) (root : List ℕ) (now : MomentParts
         let nodes : BothTyped N K =
         operands_both (T environment l) (T environment m) (T environment r) (T environment s) (Between (OperatorTyped slots operator) l r) (Between (OperatorTyped slots operator) m s)
         left_typed right_typed (λ a b type. (made_on (OperatorTyped slots operator) l r m s a b type left_quotes right_quotes, made_on (OperatorTyped slots operator) m s l r a b type (sym left_quotes) (sym right_quotes))) in
-        unless_both (ReadsNumber slots (OfEquality operator (T environment l)) r) (ReadsNumber slots (OfEquality operator (T environment m)) s)
-        (λ n. SidesGive operator N (M environment l) (GivesMember n)) (λ n. SidesGive operator K (M environment m) (GivesMember n))
-        (UnlessRead (ReadsNumber slots (OfEquality operator (T environment r)) l) (λ n. SidesGive operator N (GivesMember n) (M environment r)) (SidesGive operator N (M environment l) (M environment r)))
-        (UnlessRead (ReadsNumber slots (OfEquality operator (T environment s)) m) (λ n. SidesGive operator K (GivesMember n) (M environment s)) (SidesGive operator K (M environment m) (M environment s)))
-        (reads_both slots (OfEquality operator (T environment l)) (OfEquality operator (T environment m)) r s (equality_both operator (T environment l) (T environment m) left_typed) right_quotes)
-        (λ n. sides_both operator N K (M environment l) (M environment m) (GivesMember n) (GivesMember n) nodes left (itself (GivesMember n)))
-        (unless_both (ReadsNumber slots (OfEquality operator (T environment r)) l) (ReadsNumber slots (OfEquality operator (T environment s)) m)
-        (λ n. SidesGive operator N (GivesMember n) (M environment r)) (λ n. SidesGive operator K (GivesMember n) (M environment s))
-        (SidesGive operator N (M environment l) (M environment r)) (SidesGive operator K (M environment m) (M environment s))
-        (reads_both slots (OfEquality operator (T environment r)) (OfEquality operator (T environment s)) l m (equality_both operator (T environment r) (T environment s) right_typed) left_quotes)
-        (λ n. sides_both operator N K (GivesMember n) (GivesMember n) (M environment r) (M environment s) nodes (itself (GivesMember n)) right)
-        (sides_both operator N K (M environment l) (M environment m) (M environment r) (M environment s) nodes left right))
+        sides_both operator N K
+        (OperandGives (ReadsNumber slots (OfEquality operator (T environment r)) l) (M environment l)) (OperandGives (ReadsNumber slots (OfEquality operator (T environment s)) m) (M environment m))
+        (OperandGives (ReadsNumber slots (OfEquality operator (T environment l)) r) (M environment r)) (OperandGives (ReadsNumber slots (OfEquality operator (T environment m)) s) (M environment s))
+        nodes
+        (operand_same (OfEquality operator (T environment r)) (OfEquality operator (T environment s)) l m (equality_both operator (T environment r) (T environment s) right_typed) left_quotes left)
+        (operand_same (OfEquality operator (T environment l)) (OfEquality operator (T environment m)) r s (equality_both operator (T environment l) (T environment m) left_typed) right_quotes right)
 
     -- of two operands that are both evaluated
     two_same : (Gives : Val → Val → Outcome → Type 0) (l r m s : Tree) → Both (M environment l) (M environment m) → Both (M environment r) (M environment s)
@@ -139,20 +140,17 @@ module _ (kept : KeptForms) (slots : Slots) (root : List ℕ) (now : MomentParts
     has_same : (l r m s : Tree) → Both (M environment l) (M environment m) → Both (M environment r) (M environment s) → BothTyped (T environment l) (T environment m) → quoted_text r ≡ quoted_text s
         → Both (S environment (has l r)) (S environment (has m s))
     has_same l r m s left right left_typed right_quotes =
-        unless_both (ReadsNumber slots (T environment l) r) (ReadsNumber slots (T environment m) s)
-        (λ n. After (M environment l) (λ v. HasGives v (val.member n))) (λ n. After (M environment m) (λ v. HasGives v (val.member n)))
-        (After (M environment l) (λ v. After (M environment r) (HasGives v))) (After (M environment m) (λ v. After (M environment s) (HasGives v)))
-        (reads_both slots (T environment l) (T environment m) r s left_typed right_quotes)
-        (λ n. after_both (M environment l) (M environment m) (λ v. HasGives v (val.member n)) (λ v. HasGives v (val.member n)) left (λ v. itself (HasGives v (val.member n))))
-        (two_same HasGives l r m s left right)
+        let Operand : Outcome → Type 0 = OperandGives (ReadsNumber slots (T environment l) r) (M environment r) in
+        let Other : Outcome → Type 0 = OperandGives (ReadsNumber slots (T environment m) s) (M environment s) in
+        after_both (M environment l) (M environment m) (λ v. After Operand (HasGives v)) (λ v. After Other (HasGives v)) left
+        (λ v. after_both Operand Other (HasGives v) (HasGives v) (operand_same (T environment l) (T environment m) r s left_typed right_quotes right) (λ w. itself (HasGives v w)))
 
     -- items that evaluate to the same beside operands of the same types
     items_read : (B C : ExprType → Type 0) (items others : Trees) → BothTyped B C → Paired environment items others → QuoteAlike items others
         → AllPaired (λ tree other. Both (ItemAlone slots root now entity environment B tree) (ItemAlone slots root now entity environment C other)) items others
     items_read B C no_trees no_trees typed paired alike = tt
     items_read B C (more_trees tree more) (more_trees other others) typed paired alike = (
-      unless_both (ReadsNumber slots B tree) (ReadsNumber slots C other) GivesMember GivesMember (M environment tree) (M environment other)
-          (reads_both slots B C tree other typed alike.0) (λ n. itself (GivesMember n)) paired.0,
+      operand_same B C tree other typed alike.0 paired.0,
       items_read B C more others typed paired.1 alike.1,
     )
     items_read B C no_trees (more_trees other others) typed paired alike = absurd paired

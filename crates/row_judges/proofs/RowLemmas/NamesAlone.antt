@@ -25,7 +25,7 @@ use Rattle.odata_meaning.specs.Means.{ArgumentsMean, BinaryGives, ItemMeans, Mea
 use Rattle.odata_meaning.specs.NameGives.{FoundGives, StepGives}
 use Rattle.odata_meaning.specs.OperatorGives.{InType}
 use Rattle.odata_filter_operations.specs.Outcome.{Outcome}
-use Rattle.odata_meaning.specs.ReadGives.{GivesMember, UnlessRead}
+use Rattle.odata_meaning.specs.ReadGives.{GivesMember, OperandGives, UnlessRead}
 use Rattle.odata_filter_operations.specs.TruthGives.{NotGives}
 use Rattle.edm_values.specs.Val as val
 
@@ -78,9 +78,8 @@ module _ (slots : Slots) (root : List ℕ) (now : MomentParts) (e f : Val) (Pass
         ∙ ap (λ (M : Outcome → Type 0). BinaryGives slots operator L R left right (Means slots root now f environment left) M) (means_same environment right none.1)
     means_same environment (node start stop (has left right)) none =
         let L = Typed slots root (scope_of environment) left in
-        ap (λ (M : Outcome → Type 0). UnlessRead (ReadsNumber slots L right) (λ n. After M (λ l. HasGives l (val.member n))) (After M (λ l. After (Means slots root now e environment right) (HasGives l)))) (means_same environment left none.0)
-        ∙ ap (λ (M : Outcome → Type 0). UnlessRead (ReadsNumber slots L right) (λ n. After (Means slots root now f environment left) (λ l. HasGives l (val.member n)))
-        (After (Means slots root now f environment left) (λ l. After M (HasGives l)))) (means_same environment right none.1)
+        ap (λ (M : Outcome → Type 0). After M (λ l. After (OperandGives (ReadsNumber slots L right) (Means slots root now e environment right)) (HasGives l))) (means_same environment left none.0)
+        ∙ ap (λ (M : Outcome → Type 0). After (Means slots root now f environment left) (λ l. After (OperandGives (ReadsNumber slots L right) M) (HasGives l))) (means_same environment right none.1)
     means_same environment (node start stop (in_list left items)) none =
         let L = Typed slots root (scope_of environment) left in
         let n = length (list_of_trees items) in

@@ -1,6 +1,6 @@
 -- What a comparison evaluates to, by what its sides do.
-use Rattle.sql_outcomes.proofs.Common.{◌≡◌, ◌+◌, ◌∙◌, inl, inr, ℕ, List, sym, subst, IsSomeAnd, slice_get, IsMoment, ExprType, Slots, slots_of, type_name_at, Stands, CheckedNode, NodeKind, found_there, EndsOnceOnEntities, scope_of, OperatorGives, SidesGive, GivesMember, UnlessRead, HasKind, OneType, OfEquality, ReadsNumber, Scope, Typed, CompareGives, After, Then, Outcome, gives, overflow, divides_by_zero, ComparisonOperator, Range, BinaryOperator, Tree, binary, node, Operand, FaultyHave, IsSideAt, AreRanges, IsAskedOf, OfPlace, Question, World, BesideIn, MeansOf, means_of, only_part, by_kind}
-use Rattle.sql_outcomes.proofs.nodes.Sides.{OneNumber, beside_found, not_both, side_cases, side_comes, side_some}
+use Rattle.sql_outcomes.proofs.Common.{◌≡◌, ◌+◌, ◌∙◌, ℕ, List, sym, subst, IsSomeAnd, slice_get, IsMoment, ExprType, Slots, slots_of, type_name_at, Stands, CheckedNode, NodeKind, found_there, EndsOnceOnEntities, scope_of, OperatorGives, SidesGive, OperandGives, HasKind, OneType, OfEquality, ReadsNumber, Scope, Typed, CompareGives, After, Then, Outcome, gives, overflow, divides_by_zero, ComparisonOperator, Range, BinaryOperator, Tree, binary, node, Operand, FaultyHave, IsSideAt, AreRanges, IsAskedOf, OfPlace, Question, World, BesideIn, MeansOf, means_of, only_part, by_kind}
+use Rattle.sql_outcomes.proofs.nodes.Sides.{OneNumber, beside_found, side_cases, side_comes, side_some}
 
 -- two outcomes of sides, one after the other
 pub record SidesCome (Left Right : Outcome → Type 0) (operator : ComparisonOperator) (o : Outcome) : Type 0 where
@@ -16,13 +16,6 @@ pub sides_come : (Left Right : Outcome → Type 0) (operator : ComparisonOperato
 sides_come Left Right operator o right (gives l, (left, (r, (has, given)))) = record { left_outcome = gives l; right_outcome = r; left_has = left; right_has = has; given = given }
 sides_come Left Right operator o right (overflow, (left, is)) = record { left_outcome = overflow; right_outcome = right.0; left_has = left; right_has = right.1; given = is }
 sides_come Left Right operator o right (divides_by_zero, (left, is)) = record { left_outcome = divides_by_zero; right_outcome = right.0; left_has = left; right_has = right.1; given = is }
-
--- what is made of two sides is made of what they are said to be otherwise
-after_both : (operator : ComparisonOperator) (o : Outcome) (Left Also Right Other : Outcome → Type 0) → ((p : Outcome) → Left p → Also p) → ((p : Outcome) → Right p → Other p)
-    → After Left (λ l. After Right (CompareGives operator l)) o → After Also (λ l. After Other (CompareGives operator l)) o
-after_both operator o Left Also Right Other left_goes right_goes (gives l, (left, (r, (right, given)))) = (gives l, (left_goes (gives l) left, (r, (right_goes r right, given))))
-after_both operator o Left Also Right Other left_goes right_goes (overflow, (left, is)) = (overflow, (left_goes overflow left, is))
-after_both operator o Left Also Right Other left_goes right_goes (divides_by_zero, (left, is)) = (divides_by_zero, (left_goes divides_by_zero left, is))
 
 module _ (question : Question) (ranges : List Range) (are : AreRanges question ranges) (ends : EndsOnceOnEntities) (is_moment : IsMoment question.now.civil question.now.offset_minutes) (types : OneType)
     (one : OneNumber) (operator : BinaryOperator) (comparison : ComparisonOperator) (class_is : operator ≡ BinaryOperator.Comparison comparison) (place second : ℕ)
@@ -47,7 +40,7 @@ module _ (question : Question) (ranges : List Range) (are : AreRanges question r
 
     -- a side, by its number or by its tree
     abbrev SideOf : Tree → Tree → Outcome → Type 0
-    SideOf tree other = UnlessRead (ReadsNumber slots (BesideOf other) tree) GivesMember (MeansOf question world seen tree)
+    SideOf tree other = OperandGives (ReadsNumber slots (BesideOf other) tree) (MeansOf question world seen tree)
 
     by_class : (NodeTyped : ExprType → Type 0) (Left Right : Outcome → Type 0) → SidesGive operator NodeTyped Left Right o → After Left (λ l. After Right (CompareGives comparison l)) o
     by_class NodeTyped Left Right given = subst (λ (c : BinaryOperator). After Left (λ l. OperatorGives c NodeTyped l Right) o) class_is given
@@ -55,22 +48,7 @@ module _ (question : Question) (ranges : List Range) (are : AreRanges question r
     compares : (a b : Tree) (from to : ℕ) → MeansOf question world seen (node from to (binary operator a b)) o → After (SideOf a b) (λ l. After (SideOf b a) (CompareGives comparison l)) o
     compares a b from to means =
         let NodeTyped : ExprType → Type 0 = Typed slots root scope (node from to (binary operator a b)) in
-        let LeftMeans : Outcome → Type 0 = MeansOf question world seen a in
-        let RightMeans : Outcome → Type 0 = MeansOf question world seen b in
-        elim means [
-          | inl read ↦
-              after_both comparison o LeftMeans (SideOf a b) (GivesMember read.0) (SideOf b a)
-              (λ p given. inr (λ n reads. not_both slots root scope operator a b n read.0 reads read.1, given)) (λ p given. inl (read.0, read.1, given))
-              (by_class NodeTyped LeftMeans (GivesMember read.0) read.2)
-          | inr unread ↦ elim unread.1 [
-            | inl read ↦
-                after_both comparison o (GivesMember read.0) (SideOf a b) RightMeans (SideOf b a) (λ p given. inl (read.0, read.1, given)) (λ p given. inr (unread.0, given))
-                (by_class NodeTyped (GivesMember read.0) RightMeans read.2)
-            | inr none ↦
-                after_both comparison o LeftMeans (SideOf a b) RightMeans (SideOf b a) (λ p given. inr (none.0, given)) (λ p given. inr (unread.0, given))
-                (by_class NodeTyped LeftMeans RightMeans none.1)
-          ]
-        ]
+        by_class NodeTyped (SideOf a b) (SideOf b a) means
 
     there : (stop from to : ℕ) (a b : Tree) → Stands question.filter.schema question.filter.filtered scope question.filter.list place stop (node from to (binary operator a b))
         → MeansOf question world seen (node from to (binary operator a b)) o → FaultyHave question.filter comparison left right world o

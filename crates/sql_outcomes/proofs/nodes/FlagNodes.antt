@@ -1,5 +1,5 @@
 -- What `has` evaluates to, by what its sides do.
-use Rattle.sql_outcomes.proofs.Common.{◌≡◌, inl, inr, ◌+◌, ℕ, List, true, false, Some, refl, sym, subst, ◌∙◌, arith, IsSomeAnd, slice_get, IsMoment, Val, member, ExprType, slots_of, type_name_at, Tree, node, OneType, ReadsNumber, Typed, CheckedNode, NodeKind, scope_of, EndsOnceOnEntities, GivesMember, UnlessRead, HasKind, some_there, After, Outcome, gives, overflow, divides_by_zero, Range, Operand, Source, FlagsHave, IsSideAt, OperandHas, SourceHas, IsQuietKind, AreRanges, IsAskedOf, OfPlace, Question, World, BesideIn, MeansOf, means_in, means_of, only_part, by_kind, stop_is, slice_get_within}
+use Rattle.sql_outcomes.proofs.Common.{◌≡◌, ◌+◌, ℕ, List, true, false, Some, refl, sym, subst, ◌∙◌, arith, IsSomeAnd, slice_get, IsMoment, Val, ExprType, slots_of, type_name_at, Tree, node, OneType, ReadsNumber, Typed, CheckedNode, NodeKind, scope_of, EndsOnceOnEntities, OperandGives, HasKind, some_there, After, Outcome, gives, overflow, divides_by_zero, Range, Operand, Source, FlagsHave, IsSideAt, OperandHas, SourceHas, IsQuietKind, AreRanges, IsAskedOf, OfPlace, Question, World, BesideIn, MeansOf, means_in, means_of, only_part, by_kind, stop_is, slice_get_within}
 use Rattle.odata_syntax.specs.Tree.{has as flags}
 use Rattle.odata_filter_operations.specs.HasGives.{HasGives}
 use Rattle.sql_outcomes.proofs.nodes.InPathNodes.{at_place}
@@ -37,12 +37,6 @@ after_value First Goes o v value (gives w, (first, goes)) = (w, first, goes)
 after_value First Goes o v value (overflow, (first, goes)) = let e : overflow ≡ gives v = sym goes ∙ value in absurd (cc)
 after_value First Goes o v value (divides_by_zero, (first, goes)) = let e : divides_by_zero ≡ gives v = sym goes ∙ value in absurd (cc)
 
--- what follows a value may be said otherwise
-after_goes : (First : Outcome → Type 0) (Goes Also : Val → Outcome → Type 0) (o : Outcome) → ((v : Val) → Goes v o → Also v o) → After First Goes o → After First Also o
-after_goes First Goes Also o goes (gives v, (first, given)) = (gives v, (first, goes v given))
-after_goes First Goes Also o goes (overflow, (first, is)) = (overflow, (first, is))
-after_goes First Goes Also o goes (divides_by_zero, (first, is)) = (divides_by_zero, (first, is))
-
 -- ---- nodes of flags
 
 module _ (question : Question) (types : OneType) (one : OneNumber) (ranges : List Range) (are : AreRanges question ranges) (ends : EndsOnceOnEntities)
@@ -57,15 +51,10 @@ module _ (question : Question) (types : OneType) (one : OneNumber) (ranges : Lis
 
     -- the right side, by its number or its tree
     abbrev RightOf : Tree → Tree → Outcome → Type 0
-    RightOf a b = UnlessRead (ReadsNumber (slots_of question.filter.schema) (BesideOf a) b) GivesMember (MeansOf question world seen b)
+    RightOf a b = OperandGives (ReadsNumber (slots_of question.filter.schema) (BesideOf a) b) (MeansOf question world seen b)
 
     both_sides : (a b : Tree) (from to : ℕ) → MeansOf question world seen (node from to (flags a b)) o → After (MeansOf question world seen a) (λ l. After (RightOf a b) (HasGives l)) o
-    both_sides a b from to means = elim means [
-      | inl read ↦ after_goes (MeansOf question world seen a) (λ l. HasGives l (member read.0)) (λ l. After (RightOf a b) (HasGives l)) o (λ l given. (gives (member read.0), (inl (read.0, read.1, refl), given))) read.2
-      | inr none ↦
-          after_goes (MeansOf question world seen a) (λ l. After (MeansOf question world seen b) (HasGives l)) (λ l. After (RightOf a b) (HasGives l)) o
-          (λ l given. (given.0, (inr (none.0, given.1.0), given.1.1))) none.1
-    ]
+    both_sides a b from to means = means
 
     pub flags_come : (second : ℕ) → IsSideAt question.filter ranges second right → IsSomeAnd (slice_get question.filter.list.nodes (place + 1)) (λ n. n.stop ≡ second)
         → HasKind question.filter.list place NodeKind.Has → OfPlace question.filter place world o → FlagsHave question.filter left right world o

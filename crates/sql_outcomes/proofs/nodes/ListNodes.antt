@@ -1,5 +1,5 @@
 -- What `in` before a list evaluates to, by what its left side and its items do.
-use Rattle.sql_outcomes.proofs.Common.{◌≡◌, inl, inr, ◌<◌, ◌≤◌, ◌+◌, ◌∷◌, ◌↔◌, [], ℕ, zero, suc, List, Bool, true, false, IsTrue, None, length, refl, sym, subst, ◌∙◌, arith, AllByRecursion, IsMoment, Val, boolean, member, ExprType, SchemaModel, Slots, slots_of, type_name_at, HasType, value_of, Tree, Trees, in_list, more_trees, no_trees, node, ComparisonOperator, LogicalOperator, Quantifier, AreComparableBy, ComparesTrue, IsItemFor, ResolvedNumber, OneType, ReadsNumber, quoted_text, side_of, sides_of, AreTyped, Scope, Typed, ItemsStand, Stands, CheckedNode, NodeKind, EndsOnceOnEntities, scope_of, ItemMeans, GivesMember, UnlessRead, HasKind, comparable_values, CompareGives, ItemsGive, After, Then, Outcome, gives, overflow, divides_by_zero, DecisionGives, IsUndecided, Passes, QuantifierGives, Range, Operand, Source, AreAlong, chained, FaultyHave, HasOrCode, NoTruth, carrier_in, fault_else, AreItemsOf, EachCompared, ListHas, any_of, Fits, IsNodeOperand, IsSideAt, AreRanges, IsAskedOf, OfPlace, Question, World, MeansOf, means_of, by_kind, stop_is}
+use Rattle.sql_outcomes.proofs.Common.{◌≡◌, inl, inr, ◌<◌, ◌≤◌, ◌+◌, ◌∷◌, ◌↔◌, [], ℕ, zero, suc, List, Bool, true, false, IsTrue, None, length, refl, sym, subst, ◌∙◌, arith, AllByRecursion, IsMoment, Val, boolean, member, ExprType, SchemaModel, Slots, slots_of, type_name_at, HasType, value_of, Tree, Trees, in_list, more_trees, no_trees, node, ComparisonOperator, LogicalOperator, Quantifier, AreComparableBy, ComparesTrue, IsItemFor, ResolvedNumber, OneType, ReadsNumber, quoted_text, side_of, sides_of, AreTyped, Scope, Typed, ItemsStand, Stands, CheckedNode, NodeKind, EndsOnceOnEntities, scope_of, ItemMeans, GivesMember, OperandGives, HasKind, comparable_values, CompareGives, ItemsGive, After, Then, Outcome, gives, overflow, divides_by_zero, DecisionGives, IsUndecided, Passes, QuantifierGives, Range, Operand, Source, AreAlong, chained, FaultyHave, HasOrCode, NoTruth, carrier_in, fault_else, AreItemsOf, EachCompared, ListHas, any_of, Fits, IsNodeOperand, IsSideAt, AreRanges, IsAskedOf, OfPlace, Question, World, MeansOf, means_of, by_kind, stop_is}
 use Rattle.sql_outcomes.proofs.outcomes.Apart.{true_stays}
 use Rattle.odata_syntax.specs.Spans.{list_of_trees}
 use Rattle.odata_meaning.proofs.meaning.Reads.{number_comparable, read_has}
@@ -63,7 +63,7 @@ module _ (question : Question) (types : OneType) (ends : EndsOnceOnEntities) (is
   OtherSide = Typed slots root scope left_tree
 
   abbrev Item : Tree → Outcome → Type 0
-  Item tree = UnlessRead (ReadsNumber slots OtherSide tree) GivesMember (MeansOf question world seen tree)
+  Item tree = OperandGives (ReadsNumber slots OtherSide tree) (MeansOf question world seen tree)
 
   abbrev ItemOf : Trees → ℕ → Outcome → Type 0
   ItemOf trees = ItemMeans slots root world.now (value_of world.row) world.environment OtherSide trees

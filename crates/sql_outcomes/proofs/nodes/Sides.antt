@@ -1,5 +1,5 @@
 -- Sides of operators and items of lists: a text that is read as the number of an enumeration, or a tree by itself.
-use Rattle.sql_outcomes.proofs.Common.{◌≡◌, ◌⊎◌, ◌∙◌, inl, inr, ℕ, ℤ, ◌<◌, ◌+◌, List, Option, Some, None, refl, sym, ap, subst, arith, slice_get, IsMoment, Val, member, null, Value, ExprType, enumeration, single, SchemaModel, Slots, slots_of, Filter, IsLiteralNode, IsValueOf, Stands, CheckedNode, NodeKind, further_in, found_there, EndsOnceOnEntities, scope_of, GivesMember, UnlessRead, LiteralValue, IsQuotedNumber, ResolvedNumber, OfEquality, ReadsNone, ReadsNumber, quoted_text, expr_type, Scope, Typed, EdmType, ValueType, Outcome, gives, Range, number_there, Tree, literal, node, BinaryOperator, LiteralKind, SqlType, Operand, Source, Kind, CodeHas, HasOrCode, NoTruth, carrier_in, IsOfKind, kind_of_type, Fits, IsNodeAt, IsNumberOperand, IsReadAt, IsSideAt, OperandHas, SourceHas, AreRanges, IsAskedOf, OfPlace, Question, World, BesideIn, MeansOf, means_in, means_of, by_kind}
+use Rattle.sql_outcomes.proofs.Common.{◌≡◌, ◌⊎◌, ◌∙◌, inl, inr, ℕ, ℤ, ◌<◌, ◌+◌, List, Option, Some, None, refl, sym, ap, subst, arith, slice_get, IsMoment, Val, member, null, Value, ExprType, enumeration, single, SchemaModel, Slots, slots_of, Filter, IsLiteralNode, IsValueOf, Stands, CheckedNode, NodeKind, further_in, found_there, EndsOnceOnEntities, scope_of, GivesMember, OperandGives, LiteralValue, IsQuotedNumber, ResolvedNumber, OfEquality, ReadsNone, ReadsNumber, quoted_text, expr_type, Scope, Typed, EdmType, ValueType, Outcome, gives, Range, number_there, Tree, literal, node, BinaryOperator, LiteralKind, SqlType, Operand, Source, Kind, CodeHas, HasOrCode, NoTruth, carrier_in, IsOfKind, kind_of_type, Fits, IsNodeAt, IsNumberOperand, IsReadAt, IsSideAt, OperandHas, SourceHas, AreRanges, IsAskedOf, OfPlace, Question, World, BesideIn, MeansOf, means_in, means_of, by_kind}
 use Rattle.odata_checked_filter.specs.Stands.{HasValue}
 use Rattle.filter_context.proofs.Operands.{one_kind}
 use Rattle.sql_outcomes.proofs.nodes.BinaryPlaces.{top_node}
@@ -176,7 +176,7 @@ module _ (question : Question) (ranges : List Range) (are : AreRanges question r
       (either : IsEither question.filter ranges (scope_of world.environment) OtherSide tree place stop operand) where
     -- the number that is read, or else what the tree evaluates to
     abbrev pub SideMeans : Outcome → Type 0
-    SideMeans = UnlessRead (ReadsNumber (slots_of question.filter.schema) OtherSide tree) GivesMember (MeansOf question world seen tree)
+    SideMeans = OperandGives (ReadsNumber (slots_of question.filter.schema) OtherSide tree) (MeansOf question world seen tree)
 
     comes_by : IsEither question.filter ranges (scope_of world.environment) OtherSide tree place stop operand → (p : Outcome) → SideMeans p → SideComes question.filter operand world p
     comes_by (inl read) p (inl given) =
