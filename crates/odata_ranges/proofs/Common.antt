@@ -52,8 +52,8 @@ pub use Rattle.odata_ranges.specs.Kept.{AreKept, AreKeptVariables, IsKept, IsKep
 pub use Rattle.odata_ranges.specs.Owners.{BelongsTo, IsOwnerAt, NamesSlotOf}
 pub use Rattle.odata_ranges.specs.Ranges.{AreRangesFrom, CheckContext, HoldsRange, IsContextOf, IsRangeAt, MeansIn}
 pub use Rattle.odata_ranges.specs.Reach.{HoldsNumber, IsBounded, IsSmall, LiesBetween}
-pub use Rattle.odata_ranges.specs.private.Reach.{Reaches}
-pub use Rattle.odata_ranges.specs.Within.{HoldsCount, IsUpTo, IsValueWithin, IsWithin, unbounded}
+pub use Rattle.odata_ranges.specs.private.Reach.{Attains, IsMade, IsOneOf, Reaches}
+pub use Rattle.odata_ranges.specs.Within.{HasFault, HoldsCount, IsUpTo, IsValueWithin, IsWithin, unbounded}
 pub use Rattle.odata_ranges.specs.private.Reach.{CalculatesWithin}
 pub use Rattle.odata_ranges.specs.declared.node_form.NodeForm.{NodeForm}
 pub use Rattle.odata_ranges.specs.declared.range.Range.{Range}

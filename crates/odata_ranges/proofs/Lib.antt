@@ -1,4 +1,5 @@
 mod ArithmeticTypes
+mod Attained
 mod CallRanges
 mod Calculations
 mod Common

@@ -40,6 +40,16 @@ CalculationHas operator type left right Holds =
     (v w : Val) (o : Outcome) → IsValueWithin left v → IsValueWithin right w
     → CalculationGives operator (single (primitive type)) v w o → Holds o
 
--- is a value
+-- is a value of every two
 abbrev pub NeverFaults : ArithmeticOperator → PrimitiveType → Range → Range → Type 0
 NeverFaults operator type left right = CalculationHas operator type left right (GivesSome (λ v. Unit {0}))
+
+-- is a fault of some two numbers
+pub record HasFault (operator : ArithmeticOperator) (type : PrimitiveType) (left right : Range) : Type 0 where
+  pub first : ℤ
+  pub second : ℤ
+  pub in_left : HoldsNumber left first
+  pub in_right : HoldsNumber right second
+  pub outcome : Outcome
+  pub given : CalculationGives operator (single (primitive type)) (whole first) (whole second) outcome
+  pub is_fault : ¬ (GivesSome (λ v. Unit {0}) outcome)

@@ -1,12 +1,11 @@
-ghost use Rattle.std.specs.Prelude.{◌≡◌, ◌≢◌, ◌⊎◌, ◌≤ℤ◌, ◌*ℤ◌, ℤ, pos, int_div, unsigned_abs, IfSome, IsFalse, IsTrue, ◌||◌};
+ghost use Rattle.std.specs.Prelude.{◌≡◌, ◌≢◌, ◌⊎◌, ◌<ℤ◌, ◌≤ℤ◌, ◌*ℤ◌, ℤ, pos, int_div, unsigned_abs, IfNone, IfSome, IsFalse, IsTrue, ◌||◌};
 ghost use Rattle.edm_values.specs.NumberTypes.{IsNumberType};
 ghost use Rattle.odata_functions.specs.Arithmetic.{IsDividing};
 ghost use Rattle.odata_syntax.specs.declared.binary_operator.ArithmeticOperator.TheVariants.{Add, Sub, Mul, Div, Mod};
 ghost use Rattle.odata_ranges.specs.Reach.{HoldsNumber, IsBounded, IsSmall, LiesBetween};
-ghost use Rattle.odata_ranges.specs.private.Reach.{Reaches};
 ghost use Rattle.odata_ranges.specs.private.ArithmeticRanges.{IsNear};
-ghost use Rattle.odata_ranges.specs.Within.{NeverFaults};
-ghost use Rattle.odata_ranges.specs.private.Reach.{CalculatesWithin};
+ghost use Rattle.odata_ranges.specs.private.Reach.{Attains, CalculatesWithin, IsOneOf, Reaches};
+ghost use Rattle.odata_ranges.specs.Within.{HasFault, NeverFaults};
 
 use super::bounds::range_of_type;
 use super::range::Range;
@@ -31,6 +30,7 @@ pub(crate) fn greatest(a: i128, b: i128) -> i128
 fn span_of(a: i128, b: i128, c: i128, d: i128) -> (i128, i128)
     ensures least { (result.0 ≤ℤ a) × (result.0 ≤ℤ b) × (result.0 ≤ℤ c) × (result.0 ≤ℤ d) }
     ensures greatest { (a ≤ℤ result.1) × (b ≤ℤ result.1) × (c ≤ℤ result.1) × (d ≤ℤ result.1) }
+    ensures one { IsOneOf a b c d result.0 × IsOneOf a b c d result.1 }
 {
     (
         least(least(a, b), least(c, d)),
@@ -41,7 +41,8 @@ fn span_of(a: i128, b: i128, c: i128, d: i128) -> (i128, i128)
 fn sum_span(left: Range, right: Range) -> (i128, i128)
     requires left { IsBounded left }
     requires right { IsBounded right }
-    ensures { Reaches Add left right result }
+    ensures reaches { Reaches Add left right result }
+    ensures attains { Attains Add left right result }
 {
     (left.low + right.low, left.high + right.high)
 }
@@ -49,7 +50,8 @@ fn sum_span(left: Range, right: Range) -> (i128, i128)
 fn difference_span(left: Range, right: Range) -> (i128, i128)
     requires left { IsBounded left }
     requires right { IsBounded right }
-    ensures { Reaches Sub left right result }
+    ensures reaches { Reaches Sub left right result }
+    ensures attains { Attains Sub left right result }
 {
     (left.low - right.high, left.high - right.low)
 }
@@ -65,7 +67,8 @@ fn product(a: i128, b: i128) -> i128
 fn product_span(left: Range, right: Range) -> (i128, i128)
     requires left { IsBounded left }
     requires right { IsBounded right }
-    ensures { Reaches Mul left right result }
+    ensures reaches { Reaches Mul left right result }
+    ensures attains { Attains Mul left right result }
 {
     let both_low = product(left.low, right.low);
     let low_by_high = product(left.low, right.high);
@@ -87,7 +90,8 @@ fn quotient_span(left: Range, right: Range) -> (i128, i128)
     requires left { IsBounded left }
     requires right { IsBounded right }
     requires apart { ¬ HoldsNumber right (pos 0) }
-    ensures { Reaches Div left right result }
+    ensures reaches { Reaches Div left right result }
+    ensures attains { Attains Div left right result }
 {
     let both_low = quotient(left.low, right.low);
     let low_by_high = quotient(left.low, right.high);
@@ -144,7 +148,9 @@ fn reach(operator: ArithmeticOperator, left: Range, right: Range) -> Option<(i12
     requires left { IsBounded left }
     requires right { IsBounded right }
     ensures reaches { IfSome result (Reaches operator left right) }
+    ensures attains { IfSome result (λ span. operator ≢ Mod → Attains operator left right span) }
     ensures apart { IfSome result (λ _. IsDividing operator → ¬ HoldsNumber right (pos 0)) }
+    ensures zero { IfNone result (IsDividing operator × HoldsNumber right (pos 0)) }
 {
     match operator {
         ArithmeticOperator::Add => Some(sum_span(left, right)),
@@ -169,7 +175,8 @@ fn reach(operator: ArithmeticOperator, left: Range, right: Range) -> Option<(i12
 
 /// Whether a number between two may lie outside a range.
 fn goes_past(within: Range, low: i128, high: i128) -> bool
-    ensures { IsFalse result → (within.low ≤ℤ low) × (high ≤ℤ within.high) }
+    ensures inside { IsFalse result → (within.low ≤ℤ low) × (high ≤ℤ within.high) }
+    ensures past { IsTrue result → (low <ℤ within.low) ⊎ (within.high <ℤ high) }
 {
     low < within.low || within.high < high
 }
@@ -186,6 +193,7 @@ fn met(within: Range, low: i128, high: i128) -> Range
     ensures bounded { IsBounded result }
     ensures numbers { (n : ℤ) → LiesBetween low high n → HoldsNumber within n → HoldsNumber result n }
     ensures faults { IsFalse result.may_fault → (n : ℤ) → LiesBetween low high n → HoldsNumber within n }
+    ensures past { low ≤ℤ high → IsTrue result.may_fault → (low <ℤ within.low) ⊎ (within.high <ℤ high) }
     ensures null { result.may_be_null ≡ within.may_be_null }
 {
     let first = greatest(low, within.low);
@@ -213,6 +221,7 @@ pub(crate) fn calculated(
     requires number { IsNumberType prim }
     ensures bounded { IsBounded result }
     ensures within { CalculatesWithin operator prim left right result }
+    ensures faults { IsTrue result.may_fault → operator ≢ Mod → HasFault operator prim left right }
 {
     let within = range_of_type(prim, either(left.may_be_null, right.may_be_null));
     match reach(operator, left, right) {
@@ -222,12 +231,13 @@ pub(crate) fn calculated(
 }
 
 /// Whether the operator can have no fault: its result always lies within the type.
-/// Nor does it ever divide by 0. Its clause says nothing of false, which costs time alone.
+/// Nor does it ever divide by 0. Of `mod` its clauses say nothing of false, which costs time alone.
 pub fn is_safe(operator: ArithmeticOperator, prim: Prim, left: Range, right: Range) -> bool
     requires left { IsBounded left }
     requires right { IsBounded right }
     requires number { IsNumberType prim }
-    ensures { IsTrue result → NeverFaults operator prim left right }
+    ensures safe { IsTrue result → NeverFaults operator prim left right }
+    ensures faults { IsFalse result → operator ≢ Mod → HasFault operator prim left right }
 {
     !calculated(operator, prim, left, right).may_fault
 }

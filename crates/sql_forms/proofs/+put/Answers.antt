@@ -93,7 +93,7 @@ arithmetic_forms::put_calculated-put_faults-requires t c = c.in_ok-lifted.ensure
 
 pub arithmetic_forms::put_calculated-returns-then-safe : goal.arithmetic_forms::put_calculated-returns-then-safe
 arithmetic_forms::put_calculated-returns-then-safe t c =
-    ok_safe (question_of c.args.context.now) c.args.operator c.args.place c.number_type-prim.result c.number_type-prim.ensures c.args.left.now c.args.right.now c.first-first.result c.second-second.result c.in_ok-lifted.lifted c.args.draft.now c.open.new.draft c.put_faults.new.draft c.put_operand-then-safe.new.draft c.close.new.draft c.in_ok-lifted.ensures c.in_ok-open.ensures c.in_ok-put_faults.ensures c.first-first.ensures c.second-second.ensures c.close.result c.close.ensures.values c.close.ensures.idle (c.is_safe-safe.ensures c.if-safe.true)
+    ok_safe (question_of c.args.context.now) c.args.operator c.args.place c.number_type-prim.result c.number_type-prim.ensures c.args.left.now c.args.right.now c.first-first.result c.second-second.result c.in_ok-lifted.lifted c.args.draft.now c.open.new.draft c.put_faults.new.draft c.put_operand-then-safe.new.draft c.close.new.draft c.in_ok-lifted.ensures c.in_ok-open.ensures c.in_ok-put_faults.ensures c.first-first.ensures c.second-second.ensures c.close.result c.close.ensures.values c.close.ensures.idle (c.is_safe-safe.ensures.safe c.if-safe.true)
     c.put.new.self c.put_operand.new.draft c.in_ok-put.ensures.ok c.in_ok-put_operand.ensures c.in_ok-put_operand-2.ensures
 
 pub arithmetic_forms::put_calculated-returns : goal.arithmetic_forms::put_calculated-returns

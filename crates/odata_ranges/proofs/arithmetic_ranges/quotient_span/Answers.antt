@@ -1,9 +1,10 @@
 use Rattle.odata_ranges.proofs.Common.{arith, rules, w128, FitsSigned, ints, to_z-of_z}
+use Rattle.odata_ranges.proofs.Attained.{quotient_attains}
 use Rattle.odata_ranges.proofs.Calculations.{quotient_reaches}
 use Rattle.odata_ranges.proofs.arithmetic_ranges.quotient_span.Goals as goal
 
-pub returns : goal.returns
-returns c =
+pub returns-clause-reaches : goal.returns-clause-reaches
+returns-clause-reaches c =
     let left_low : FitsSigned w128 c.args.left.low = search rules in
     let left_high : FitsSigned w128 c.args.left.high = search rules in
     let right_low : FitsSigned w128 c.args.right.low = search rules in
@@ -16,3 +17,21 @@ returns c =
     c.span_of.result c.requires.right c.requires.apart p q r s
     (omega (arith, ints), omega (arith, ints), omega (arith, ints), omega (arith, ints))
     (omega (arith, ints), omega (arith, ints), omega (arith, ints), omega (arith, ints))
+
+pub returns-clause-attains : goal.returns-clause-attains
+returns-clause-attains c =
+    let left_low : FitsSigned w128 c.args.left.low = search rules in
+    let left_high : FitsSigned w128 c.args.left.high = search rules in
+    let right_low : FitsSigned w128 c.args.right.low = search rules in
+    let right_high : FitsSigned w128 c.args.right.high = search rules in
+    let p = simp to_z-of_z at c.quotient-both_low.ensures in
+    let q = simp to_z-of_z at c.quotient-low_by_high.ensures in
+    let r = simp to_z-of_z at c.quotient-high_by_low.ensures in
+    let s = simp to_z-of_z at c.quotient-both_high.ensures in
+    let of_p : FitsSigned w128 c.quotient-both_low.result = search rules in
+    let of_q : FitsSigned w128 c.quotient-low_by_high.result = search rules in
+    let of_r : FitsSigned w128 c.quotient-high_by_low.result = search rules in
+    let of_s : FitsSigned w128 c.quotient-both_high.result = search rules in
+    let ones = simp to_z-of_z at c.span_of.ensures.one in
+    quotient_attains c.args.left c.args.right c.quotient-both_low.result c.quotient-low_by_high.result c.quotient-high_by_low.result c.quotient-both_high.result
+    c.span_of.result c.requires.left c.requires.right c.requires.apart p q r s ones.0 ones.1

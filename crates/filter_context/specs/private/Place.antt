@@ -9,8 +9,8 @@ use Rattle.odata_signatures.specs.declared.function.Function.{Function}
 use Rattle.odata_signatures.specs.ExprTypes.{IsBooleanOrNull, IsNumberOrNull}
 use Rattle.odata_checked_filter.specs.FlatTree.{FlatTree}
 use Rattle.filter_context.specs.declared.walk_class.WalkClass.{WalkClass}
-use Rattle.filter_context.specs.EvalContext.{OperandHere, StandsHere, TypedHere}
-use Rattle.filter_context.specs.ContextModel.{ContextModel}
+use Rattle.filter_context.specs.private.EvalContext.{OperandHere, StandsHere, TypedHere}
+use Rattle.filter_context.specs.private.ContextModel.{ContextModel}
 use Rattle.filter_context.specs.WalkClass.{walk_of_kind}
 
 -- something stands there

@@ -6,8 +6,8 @@ use Rattle.odata_syntax.specs.Tree.{Tree}
 use Rattle.odata_checked_filter.specs.Calls.{TakesMemory}
 use Rattle.odata_filter_operations.specs.Outcome.{Outcome, gives}
 use Rattle.odata_filter_operations.specs.Reports.{Reports}
-use Rattle.filter_context.specs.EvalContext.{MeansHere, NumberHere, StandsHere, TypedHere}
-use Rattle.filter_context.specs.ContextModel.{ContextModel}
+use Rattle.filter_context.specs.private.EvalContext.{MeansHere, NumberHere, StandsHere, TypedHere}
+use Rattle.filter_context.specs.private.ContextModel.{ContextModel}
 
 -- it is an outcome of what stands at the index, by the type of that; where a literal has a number, it is that number
 pub record AnswersAtPlace (context : ContextModel) (place : ℕ) (reported : ExprType → Option Outcome) : Type 0 where

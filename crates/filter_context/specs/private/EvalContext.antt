@@ -12,7 +12,7 @@ use Rattle.odata_meaning.specs.EndsOnce.{EndsOnce}
 use Rattle.odata_meaning.specs.Environment.{scope_of}
 use Rattle.odata_meaning.specs.Means.{Means}
 use Rattle.odata_filter_operations.specs.Outcome.{Outcome}
-use Rattle.filter_context.specs.ContextModel.{ContextModel, environment_of}
+use Rattle.filter_context.specs.private.ContextModel.{ContextModel, environment_of}
 
 -- the nodes of the list from the index up to the stop stand for the tree
 abbrev pub StandsHere : ContextModel → ℕ → ℕ → Tree → Type 0
