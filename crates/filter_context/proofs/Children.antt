@@ -6,8 +6,8 @@ use Rattle.odata_signatures.specs.Typed.{Scope, Typed}
 use Rattle.odata_checked_filter.specs.FlatTree.{FlatTree}
 use Rattle.odata_checked_filter.specs.Stands.{InBody, InLine, SideBySide, Stands}
 use Rattle.odata_meaning.specs.Environment.{scope_of}
-use Rattle.filter_context.specs.EvalContext.{StandsHere}
-use Rattle.filter_context.specs.ContextModel.{ContextModel, environment_of}
+use Rattle.filter_context.specs.private.EvalContext.{StandsHere}
+use Rattle.filter_context.specs.private.ContextModel.{ContextModel, environment_of}
 
 only_part : (WalkOperand : ℕ → ℕ → Type 0) (i j : ℕ) → InLine (WalkOperand ∷ []) i j → WalkOperand i j
 only_part WalkOperand i j stand = let same : stand.middle ≡ j = stand.right in subst (λ (k : ℕ). WalkOperand i k) same stand.left

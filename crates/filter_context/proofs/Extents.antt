@@ -12,9 +12,9 @@ use Rattle.filter_context.specs.declared.walk_class.WalkClass.{WalkClass}
 use Rattle.odata_meaning.specs.Environment.{scope_of}
 use Rattle.odata_signatures.specs.Reads.{OfEquality}
 use Rattle.odata_signatures.specs.Sides.{side_of}
-use Rattle.filter_context.specs.Place.{HasKind, IsRightOf, OperandStands, PartStands, TypedStands}
-use Rattle.filter_context.specs.EvalContext.{OperandHere, StandsHere, TypedHere}
-use Rattle.filter_context.specs.ContextModel.{ContextModel, environment_of}
+use Rattle.filter_context.specs.private.Place.{HasKind, IsRightOf, OperandStands, PartStands, TypedStands}
+use Rattle.filter_context.specs.private.EvalContext.{OperandHere, StandsHere, TypedHere}
+use Rattle.filter_context.specs.private.ContextModel.{ContextModel, environment_of}
 use Rattle.filter_context.specs.WalkClass.{walk_of_operator}
 use Rattle.odata_checked_filter.specs.Stands.{ResolvedStands, NumberStands, SideBySide, Stands}
 use Rattle.odata_checked_filter.specs.private.Stands.{AllStand, ItemsStand}

@@ -27,10 +27,10 @@ use Rattle.edm_entities.specs.Row.{value_of}
 use Rattle.odata_meaning.specs.Environment.{scope_of}
 use Rattle.odata_meaning.specs.OneByOne.{ItemAlone}
 use Rattle.filter_context.specs.declared.walk_class.WalkClass.{WalkClass}
-use Rattle.filter_context.specs.Place.{HasKind, IsClassAt, OperandStands, PartStands}
-use Rattle.filter_context.specs.EvalContext.{MeansHere, NumberHere, OperandHere, StandsHere, TypedHere}
-use Rattle.filter_context.specs.ContextModel.{ContextModel, environment_of}
-use Rattle.filter_context.specs.AnswersAtPlace.{AnswersAtPlace}
+use Rattle.filter_context.specs.private.Place.{HasKind, IsClassAt, OperandStands, PartStands}
+use Rattle.filter_context.specs.private.EvalContext.{MeansHere, NumberHere, OperandHere, StandsHere, TypedHere}
+use Rattle.filter_context.specs.private.ContextModel.{ContextModel, environment_of}
+use Rattle.filter_context.specs.private.AnswersAtPlace.{AnswersAtPlace}
 use Rattle.filter_context.specs.WalkClass.{walk_of_kind}
 use Rattle.filter_context.proofs.Parts.{some_there, stands_inside, reports_there, there_found}
 

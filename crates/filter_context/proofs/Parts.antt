@@ -14,9 +14,9 @@ use Rattle.odata_checked_filter.specs.Stands.{IsKindOf}
 use Rattle.odata_signatures.specs.Typed.{Scope}
 use Rattle.odata_meaning.specs.Environment.{scope_of}
 use Rattle.odata_filter_operations.specs.Outcome.{Outcome}
-use Rattle.filter_context.specs.Place.{HasKind, PartStands}
-use Rattle.filter_context.specs.EvalContext.{StandsHere, TypedHere}
-use Rattle.filter_context.specs.ContextModel.{ContextModel, environment_of}
+use Rattle.filter_context.specs.private.Place.{HasKind, PartStands}
+use Rattle.filter_context.specs.private.EvalContext.{StandsHere, TypedHere}
+use Rattle.filter_context.specs.private.ContextModel.{ContextModel, environment_of}
 use Rattle.odata_filter_operations.specs.Reports.{Reports}
 
 -- a fact of what is held, and back

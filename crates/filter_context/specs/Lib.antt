@@ -16,9 +16,6 @@ pub use Rattle.odata_signatures.specs.ExprTypes
 pub use Rattle.odata_signatures.specs.TypeView
 pub use Rattle.odata_signatures.specs.Typed
 pub use Rattle.odata_syntax.specs.Tree
-pub mod AnswersAtPlace
-pub mod ContextModel
-pub mod EvalContext
 pub mod Frames
-pub mod Place
 pub mod WalkClass
+pub mod private

@@ -4,7 +4,7 @@
 //! second term is false. The plain terms before the first other one are asked of a context that is not kept in memory,
 //! which takes off another 57 of 1,216.
 ghost use Rattle.std.specs.Prelude.{◌<◌, ℕ, IfSome, IsTrue, Ok, Some};
-ghost use Rattle.filter_context.specs.Place.{HasOperator, PartStands, TruthStands};
+ghost use Rattle.filter_context.specs.private.Place.{HasOperator, PartStands, TruthStands};
 ghost use Rattle.odata_eval.specs.private.RemainingTerms.{IsRemaining, ReportsTerms};
 ghost use Rattle.odata_eval.specs.private.WalkAnswer.{AnswersTruth};
 

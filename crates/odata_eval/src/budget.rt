@@ -2,7 +2,7 @@
 ghost use Rattle.std.specs.Prelude.{◌≡◌, ◌≢◌, IsFalse};
 ghost use Rattle.odata_filter_operations.specs.Collections.{AreCompared, AreComparedIn};
 ghost use Rattle.odata_meaning.specs.Costs.{item_cost};
-ghost use Rattle.filter_context.specs.ContextModel.{environment_of};
+ghost use Rattle.filter_context.specs.private.ContextModel.{environment_of};
 ghost use Rattle.odata_eval.specs.private.Spending.{IsTaken, datum_as_stop, members_due, number_as_stop, path_due};
 
 use super::eval_context::EvalContext;

@@ -1,7 +1,7 @@
 //! The walk of a filter's list where collections, lists and flags are asked: of `in`, and of `has`.
 ghost use Rattle.std.specs.Prelude.{◌+◌, None, Ok};
 ghost use Rattle.odata_checked_filter.specs.declared.checked_node.NodeKind.{NodeKind as Kind};
-ghost use Rattle.filter_context.specs.Place.{HasKind, PartStands};
+ghost use Rattle.filter_context.specs.private.Place.{HasKind, PartStands};
 ghost use Rattle.odata_eval.specs.private.Spending.{CountedDatum, SpendsRest, datum_stop};
 ghost use Rattle.odata_eval.specs.private.WalkAnswer.{AnswersDatum};
 
@@ -68,6 +68,7 @@ pub(crate) fn among_at<'e, B: Counting>(
 
 /// What `in` before a list evaluates to. The items are evaluated from the left until one is equal.
 #[cycle(evaluate)]
+#[inline(never)]
 pub(crate) fn listed_at<'e, B: Counting>(
     context: &EvalContext<'e, '_, '_>,
     place: usize,

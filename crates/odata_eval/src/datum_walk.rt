@@ -1,6 +1,6 @@
 //! The walk of values of any type: stored ones stay where they are, the others are made.
 ghost use Rattle.std.specs.Prelude.{◌+◌, None, Ok};
-ghost use Rattle.filter_context.specs.Place.{HasCall, HasOperator, IsClassAt, OperandStands, PartStands};
+ghost use Rattle.filter_context.specs.private.Place.{HasCall, HasOperator, IsClassAt, OperandStands, PartStands};
 ghost use Rattle.odata_eval.specs.private.Spending.{CountedDatum, SpendsAt, SpendsRest, datum_stop};
 ghost use Rattle.odata_eval.specs.private.WalkAnswer.{AnswersDatum};
 
@@ -128,6 +128,7 @@ fn made_at<'e, B: Counting>(
 
 /// What a comparison evaluates to.
 #[cycle(evaluate)]
+#[inline(never)]
 fn compared_at<'e, B: Counting>(
     context: &EvalContext<'e, '_, '_>,
     place: usize,

@@ -8,8 +8,8 @@ ghost use Rattle.odata_checked_filter.specs.Filter.{IsFilter};
 ghost use Rattle.odata_signatures.specs.declared.edm_type.ValueType.{ValueType};
 ghost use Rattle.filter_context.specs.Frames.{StandsAtLevel, frame_of, names_of};
 ghost use Rattle.odata_eval.specs.private.Lambda.{IsOverMembers, IsVariableOf, Suits};
-ghost use Rattle.filter_context.specs.EvalContext.{EndsOnceHere, HoldsAt};
-ghost use Rattle.filter_context.specs.ContextModel.{IsBeside, environment_of, with_frame};
+ghost use Rattle.filter_context.specs.private.EvalContext.{EndsOnceHere, HoldsAt};
+ghost use Rattle.filter_context.specs.private.ContextModel.{IsBeside, environment_of, with_frame};
 ghost use Rattle.odata_meaning.specs.Costs.{item_cost};
 ghost use Rattle.odata_eval.specs.private.Spending.{CostsOnceHere};
 
@@ -41,7 +41,7 @@ impl<'e, 'c, 'r> Model for EvalContext<'e, 'c, 'r> {
     ghost use Rattle.edm_values.specs.contracts.value.Value as value;
     ghost use Rattle.std.specs.Coded.{codes};
     ghost use Rattle.filter_context.specs.Frames.{frames_in};
-    ghost use Rattle.filter_context.specs.ContextModel.{ContextModel, IsContext, context_in};
+    ghost use Rattle.filter_context.specs.private.ContextModel.{ContextModel, IsContext, context_in};
 
     ghost Value = { ContextModel };
 

@@ -11,8 +11,8 @@ ghost use Rattle.csdl_schema.specs.ExpansionView.{paths_in};
 ghost use Rattle.csdl_schema.specs.PathSet.{Covers};
 ghost use Rattle.odata_checked_filter.specs.Filter.{tree_of_filter};
 ghost use Rattle.odata_eval.specs.private.RemainingTerms.{IsRemaining, ReportsTerms};
-ghost use Rattle.filter_context.specs.EvalContext.{EndsOnceHere};
-ghost use Rattle.filter_context.specs.ContextModel.{context_in};
+ghost use Rattle.filter_context.specs.private.EvalContext.{EndsOnceHere};
+ghost use Rattle.filter_context.specs.private.ContextModel.{context_in};
 
 use super::and_chain::{PlainTerms, RemainingTerms, ask_plain_terms, truth_of_remaining};
 use super::eval_context::{EvalContext, fields_of};

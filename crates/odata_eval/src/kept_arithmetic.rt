@@ -1,7 +1,7 @@
 //! Comparisons of arithmetic over stored numbers: what most filters have of it, without a call and without a fault.
 ghost use Rattle.std.specs.Prelude.{◌+◌, IfSome, Ok, Some};
 ghost use Rattle.filter_context.specs.declared.walk_class.WalkClass.{WalkClass as Class};
-ghost use Rattle.filter_context.specs.Place.{HasOperator, IsClassAt, PartStands};
+ghost use Rattle.filter_context.specs.private.Place.{HasOperator, IsClassAt, PartStands};
 ghost use Rattle.odata_eval.specs.private.WalkAnswer.{AnswersNumber, AnswersTruth};
 
 use super::eval_context::EvalContext;

@@ -3,7 +3,7 @@
 ghost use Rattle.std.specs.Prelude.{◌≡◌, ◌+◌, ℕ, IfSome, List, Ok, Some};
 ghost use Rattle.odata_checked_filter.specs.declared.checked_node.NodeKind.{NodeKind as Kind};
 ghost use Rattle.odata_eval.specs.private.KeptOperands.{AnswersCall, AnswersLast, AnswersLowered, AnswersText, IsPathAt};
-ghost use Rattle.filter_context.specs.Place.{HasCall, HasKind, HasOperator, IsClassAt, OperandStands, PartStands};
+ghost use Rattle.filter_context.specs.private.Place.{HasCall, HasKind, HasOperator, IsClassAt, OperandStands, PartStands};
 ghost use Rattle.odata_eval.specs.private.WalkAnswer.{AnswersKept, AnswersNumber, AnswersTruth};
 ghost use Rattle.filter_context.specs.declared.walk_class.WalkClass.{WalkClass as Class};
 

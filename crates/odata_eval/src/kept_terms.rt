@@ -1,7 +1,7 @@
 //! Plain terms: a Boolean property, and a comparison of a property with a literal.
 ghost use Rattle.std.specs.Prelude.{◌+◌, IfSome, Ok, Some};
 ghost use Rattle.odata_checked_filter.specs.declared.checked_node.NodeKind.{NodeKind as Kind};
-ghost use Rattle.filter_context.specs.Place.{HasKind, HasOperator, IsRightOf, OperandStands, PartStands, TruthStands};
+ghost use Rattle.filter_context.specs.private.Place.{HasKind, HasOperator, IsRightOf, OperandStands, PartStands, TruthStands};
 ghost use Rattle.odata_eval.specs.private.WalkAnswer.{AnswersTruth};
 
 use super::eval_context::EvalContext;

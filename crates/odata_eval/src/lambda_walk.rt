@@ -6,7 +6,7 @@ ghost use Rattle.odata_checked_filter.specs.declared.checked_node.NodeKind.{Node
 ghost use Rattle.odata_filter_operations.specs.QuantifierGives.{IsUndecided, undecided_val};
 ghost use Rattle.odata_filter_operations.specs.TruthGives.{truth_val};
 ghost use Rattle.odata_eval.specs.private.Lambda.{BodyIsThere, Suits};
-ghost use Rattle.filter_context.specs.Place.{HasKind, PartStands};
+ghost use Rattle.filter_context.specs.private.Place.{HasKind, PartStands};
 ghost use Rattle.odata_eval.specs.private.Spending.{CountedDatum, CountedMembers, SpendsMembers, SpendsRest, datum_stop, stopped_by};
 ghost use Rattle.odata_eval.specs.private.WalkAnswer.{AnswersDatum};
 

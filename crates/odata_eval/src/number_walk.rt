@@ -1,6 +1,6 @@
 //! The walk of a filter's list where numbers are taken: of arithmetic, and of `-`.
 ghost use Rattle.std.specs.Prelude.{◌≡◌, ◌+◌, None, Ok};
-ghost use Rattle.filter_context.specs.Place.{HasOperator, IsClassAt, NumberStands, PartStands};
+ghost use Rattle.filter_context.specs.private.Place.{HasOperator, IsClassAt, NumberStands, PartStands};
 ghost use Rattle.odata_eval.specs.private.Spending.{CountedNumber, SpendsAt, SpendsRest, stopped_by};
 ghost use Rattle.odata_eval.specs.private.WalkAnswer.{AnswersNumber};
 

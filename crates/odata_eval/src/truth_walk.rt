@@ -5,7 +5,7 @@
 //!
 //! What is asked at each node is marked to be inlined, so that an answer is not passed on through memory.
 ghost use Rattle.std.specs.Prelude.{◌+◌, None, Ok};
-ghost use Rattle.filter_context.specs.Place.{HasCall, HasOperator, IsClassAt, PartStands, TruthStands};
+ghost use Rattle.filter_context.specs.private.Place.{HasCall, HasOperator, IsClassAt, PartStands, TruthStands};
 ghost use Rattle.odata_eval.specs.private.Spending.{CountedTruth, SpendsAt, SpendsRest, stopped_by};
 ghost use Rattle.odata_eval.specs.private.WalkAnswer.{AnswersTruth};
 
@@ -170,7 +170,7 @@ fn numbers_truth_at<B: Counting>(
 
 /// The same, of a call. Two stored values are taken where they are.
 #[cycle(evaluate)]
-#[inline(always)]
+#[inline(never)]
 fn called_truth_at<B: Counting>(
     context: &EvalContext<'_, '_, '_>,
     place: usize,

@@ -5,7 +5,7 @@ ghost use Rattle.edm_values.specs.Val.{Val, text as text_val, whole};
 ghost use Rattle.odata_eval.specs.FalseWhere.{IsSieveOf};
 ghost use Rattle.odata_eval.specs.TrueWhere.{AreWhole};
 ghost use Rattle.odata_eval.specs.private.ValueTests.{AndsAbove, Decides, IsNoNumber, IsTermSieve};
-ghost use Rattle.filter_context.specs.Place.{HasKind, HasOperator};
+ghost use Rattle.filter_context.specs.private.Place.{HasKind, HasOperator};
 ghost use Rattle.odata_syntax.specs.declared.binary_operator.ComparisonOperator.{ComparisonOperator as Compares};
 
 use edm_values::{Sieve, Value};

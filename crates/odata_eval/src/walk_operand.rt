@@ -20,7 +20,7 @@ pub(crate) enum WalkOperand<'e> {
     Eager,
 }
 
-ghost use Rattle.filter_context.specs.Place.{IsClassAt, IsRightOf, IsStopOf, OperandStands};
+ghost use Rattle.filter_context.specs.private.Place.{IsClassAt, IsRightOf, IsStopOf, OperandStands};
 ghost use Rattle.odata_eval.specs.private.WalkAnswer.{AnswersKept, IsWalkOperand};
 
 /// The logical operator of a node of this kind. `None` where it has none.

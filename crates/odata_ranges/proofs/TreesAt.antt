@@ -1,6 +1,6 @@
 -- What stands at an index of a filter's list: a tree, or a text that is read as the number of an enumeration.
 use Rattle.odata_ranges.proofs.Common.{◌≡◌, ◌∙◌, ◌⊎◌, inl, inr, ap, subst, ℕ, ℤ, ◌<◌, ◌≤◌, ◌+◌, List, [], Some, length, slice_get, arith, slice_get_within, Value, ExprType, single, SchemaModel, slots_of, type_name_at, Shape, Tree, Trees, any_item, binary, call, count, has, in_list, in_path, lambda, literal, logical_not, member, more_trees, negation, no_trees, node, LiteralKind, Scope, Typed, with_variable, Filter, IsFilter, tree_of_filter, FlatTree, ResolvedStands, HasValue, IsLiteralNode, NumberStands, Stands, CheckedNode, NodeKind, IsOther, one_kind, some_there, there_found, ◌∷◌}
-use Rattle.filter_context.specs.Place.{HasKind}
+use Rattle.filter_context.specs.private.Place.{HasKind}
 use Rattle.odata_ranges.proofs.Values.{before_or_past}
 use Rattle.odata_checked_filter.specs.Stands.{InLine, child_parts, item_parts, tree_parts}
 

@@ -23,7 +23,7 @@ use Rattle.filter_context.proofs.Parts.{found_there, some_there, there_found}
 use Rattle.filter_context.proofs.Spines.{only_now}
 use Rattle.odata_meaning.specs.Environment.{Environment, scope_of}
 use Rattle.odata_meaning.specs.Means.{ArgumentsMean, Means}
-use Rattle.filter_context.specs.Place.{HasKind}
+use Rattle.filter_context.specs.private.Place.{HasKind}
 use Rattle.odata_signatures.specs.Laws.{OneLiteralValue}
 use Rattle.odata_signatures.specs.LiteralValue.{LiteralValue}
 use Rattle.odata_signatures.specs.Typed.{AreTyped, Scope}

@@ -9,7 +9,7 @@ use Rattle.odata_checked_filter.specs.declared.checked_node.CheckedNode.{Checked
 use Rattle.odata_checked_filter.specs.declared.checked_node.NodeKind.{NodeKind}
 use Rattle.filter_context.proofs.Children.{one_there}
 use Rattle.filter_context.proofs.Parts.{CasesOf, found_there}
-use Rattle.filter_context.specs.Place.{HasKind}
+use Rattle.filter_context.specs.private.Place.{HasKind}
 use Rattle.odata_ranges.proofs.Forms.{by_case}
 use Rattle.odata_signatures.specs.Typed.{Scope}
 use Rattle.odata_syntax.specs.Tree.{Shape, Tree, member, node}

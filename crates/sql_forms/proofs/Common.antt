@@ -18,7 +18,7 @@ pub use Rattle.odata_checked_filter.specs.declared.checked_node.NodeKind.{NodeKi
 pub use Rattle.odata_checked_filter.specs.private.Layout.{AllLie}
 pub use Rattle.filter_context.proofs.Children.{one_there}
 pub use Rattle.filter_context.proofs.Parts.{found_there, goes_there, inside, some_there, there_found}
-pub use Rattle.filter_context.specs.Place.{HasKind}
+pub use Rattle.filter_context.specs.private.Place.{HasKind}
 pub use Rattle.odata_filter_operations.specs.CalculationGives.{ComputesTo, GivesNumber, number_outcome, number_val}
 pub use Rattle.odata_filter_operations.specs.CallGives.{UnlessNull, has_null}
 pub use Rattle.odata_filter_operations.specs.CollectionGives.{AnyItemGives, CountGives, members_of}

@@ -29,7 +29,7 @@ use Rattle.edm_entities.specs.Row.{val_of}
 use Rattle.odata_filter_operations.specs.DatumView.{reading_at}
 use Rattle.odata_eval.specs.declared.stop.EvalStop.{EvalStop}
 use Rattle.odata_meaning.specs.Costs.{item_cost}
-use Rattle.filter_context.specs.EvalContext.{EndsOnceHere, TypedHere}
+use Rattle.filter_context.specs.private.EvalContext.{EndsOnceHere, TypedHere}
 use Rattle.odata_eval.specs.private.Spending.{CountedDatum, CountedMembers, CountedNumber, CountedTruth, SpendsAt, IsTaken, Takes, datum_stop, path_due, stopped_by}
 use Rattle.odata_eval.specs.declared.budget.Budget.{Budget}
 use Rattle.odata_eval.proofs.spending.Budgets.{takes_nothing}
@@ -44,12 +44,12 @@ use Rattle.odata_eval.proofs.spending.Splits.{first_stops}
 use Rattle.odata_eval.proofs.spending.Stops.{after_stop, after_value, as_counted, as_number, as_paid, as_spent, by_stop, datum_faults, fault_paid, next_spent, number_faults, number_spent, truth_faults, unbounded_spends}
 use Rattle.odata_eval.proofs.spending.TextCosts.{numbers_cost}
 use Rattle.odata_eval.proofs.spending.Members.{all_paid, body_decides, body_passes, body_stops, none_left, none_paid}
-use Rattle.filter_context.specs.Place.{HasCall, HasKind, HasOperator, IsNumberOperand, IsStopOf, NumberStands, OperandStands, PartStands, TruthStands}
+use Rattle.filter_context.specs.private.Place.{HasCall, HasKind, HasOperator, IsNumberOperand, IsStopOf, NumberStands, OperandStands, PartStands, TruthStands}
 use Rattle.filter_context.specs.WalkClass.{walk_of_kind}
 use Rattle.odata_eval.specs.private.WalkAnswer.{AllAnswered, AnswersDatum, AnswersNumber, AnswersTruth}
 use Rattle.filter_context.specs.Frames.{frame_of}
 use Rattle.odata_eval.specs.private.Lambda.{Suits}
-use Rattle.filter_context.specs.ContextModel.{ContextModel, environment_of, with_frame}
+use Rattle.filter_context.specs.private.ContextModel.{ContextModel, environment_of, with_frame}
 use Rattle.filter_context.proofs.Parts.{found_there, part_inside, there_found}
 use Rattle.odata_eval.proofs.walking.CallSteps.{OneName, argument_behind, argument_faults, argument_stands, call_answers, call_applies, first_argument, third_is_last}
 use Rattle.odata_meaning.specs.private.LawsBelow.{Promotes}

@@ -1,5 +1,5 @@
 use Rattle.std.proofs.Common.{◌≤◌, ◌-◌}
-use Rattle.filter_context.specs.ContextModel.{IsBeside}
+use Rattle.filter_context.specs.private.ContextModel.{IsBeside}
 use Rattle.odata_eval.specs.private.Spending.{CountedDatum, CountedNumber, CountedTruth, SpendsAt, Takes, datum_stop, stopped_by}
 use Rattle.odata_eval.proofs.spending.Members.{MembersPaid}
 use Rattle.odata_eval.proofs.walking.ItemSteps.{ListLeft}

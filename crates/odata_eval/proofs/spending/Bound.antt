@@ -11,8 +11,8 @@ use Rattle.odata_meaning.specs.Environment.{Environment}
 use Rattle.odata_eval.specs.declared.budget.Budget.{Budget}
 use Rattle.odata_eval.specs.declared.stop.EvalStop.{EvalStop}
 use Rattle.odata_eval.specs.declared.verdict.Verdict.{Verdict}
-use Rattle.filter_context.specs.Place.{OperandStands}
-use Rattle.filter_context.specs.ContextModel.{ContextModel}
+use Rattle.filter_context.specs.private.Place.{OperandStands}
+use Rattle.filter_context.specs.private.ContextModel.{ContextModel}
 use Rattle.odata_eval.specs.private.Spending.{CostsHere, CostsOnceHere, SpendsAt, Spent, Takes}
 use Rattle.filter_context.proofs.Spines.{has_type}
 use Rattle.odata_eval.proofs.walking.TopNode.{no_variables, whole_stands, whole_typed}

@@ -19,9 +19,9 @@ use Rattle.odata_syntax.specs.Tree.{Trees, call, more_trees, no_trees, node}
 use Rattle.odata_meaning.specs.Costs.{ArgumentsCost}
 use Rattle.odata_eval.specs.declared.budget.Budget.{Budget}
 use Rattle.odata_eval.specs.declared.stop.EvalStop.{EvalStop}
-use Rattle.filter_context.specs.Place.{HasKind, IsStopOf}
-use Rattle.filter_context.specs.EvalContext.{EndsOnceHere, MeansHere, StandsHere}
-use Rattle.filter_context.specs.ContextModel.{ContextModel, environment_of}
+use Rattle.filter_context.specs.private.Place.{HasKind, IsStopOf}
+use Rattle.filter_context.specs.private.EvalContext.{EndsOnceHere, MeansHere, StandsHere}
+use Rattle.filter_context.specs.private.ContextModel.{ContextModel, environment_of}
 use Rattle.odata_eval.specs.private.Spending.{CostsHere, SpendsAt, Spent, Takes}
 use Rattle.odata_eval.specs.private.WalkAnswer.{AnswersDatum}
 use Rattle.odata_meaning.proofs.meaning.CallEnds.{HaveTypes, applies_of}

@@ -12,9 +12,9 @@ use Rattle.odata_syntax.specs.declared.binary_operator.BinaryOperator.{BinaryOpe
 use Rattle.odata_meaning.specs.Costs.{ArgumentsCost}
 use Rattle.odata_filter_operations.specs.TextCosts.{CallCosts, call_cost}
 use Rattle.filter_context.specs.declared.walk_class.WalkClass.{WalkClass}
-use Rattle.filter_context.specs.Place.{HasKind, IsClassAt}
-use Rattle.filter_context.specs.EvalContext.{StandsHere}
-use Rattle.filter_context.specs.ContextModel.{ContextModel, environment_of}
+use Rattle.filter_context.specs.private.Place.{HasKind, IsClassAt}
+use Rattle.filter_context.specs.private.EvalContext.{StandsHere}
+use Rattle.filter_context.specs.private.ContextModel.{ContextModel, environment_of}
 use Rattle.odata_eval.specs.private.Spending.{CostsHere}
 use Rattle.filter_context.specs.WalkClass.{walk_of_kind, walk_of_operator}
 use Rattle.odata_meaning.proofs.costs.Zero.{IsFree}

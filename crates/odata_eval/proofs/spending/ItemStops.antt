@@ -15,8 +15,8 @@ use Rattle.odata_meaning.specs.Costs.{CostThen, item_cost}
 use Rattle.odata_filter_operations.specs.TextCosts.{comparison_cost}
 use Rattle.odata_eval.specs.declared.budget.Budget.{Budget}
 use Rattle.odata_eval.specs.declared.stop.EvalStop.{EvalStop}
-use Rattle.filter_context.specs.EvalContext.{EndsOnceHere, OperandHere, StandsHere, TypedHere}
-use Rattle.filter_context.specs.ContextModel.{ContextModel, environment_of}
+use Rattle.filter_context.specs.private.EvalContext.{EndsOnceHere, OperandHere, StandsHere, TypedHere}
+use Rattle.filter_context.specs.private.ContextModel.{ContextModel, environment_of}
 use Rattle.odata_eval.specs.private.Spending.{CostsHere, HasFewer, SpendsAt, SpendsRest, Spent, Takes}
 use Rattle.odata_eval.proofs.spending.Budgets.{fewer_first, fewer_then, spent_first, spent_same, spent_then, takes_both}
 use Rattle.odata_eval.proofs.spending.Items.{AfterItem, ItemsCostHere, ItemsDue, SideItem, alone_faults}

@@ -18,8 +18,8 @@ use Rattle.odata_signatures.specs.Sides.{side_of}
 use Rattle.odata_meaning.specs.Costs.{CostAfter, CostThen, CostsExactly, ItemsCost, OthersCost, item_cost}
 use Rattle.odata_filter_operations.specs.TextCosts.{comparison_cost}
 use Rattle.odata_meaning.specs.Means.{ItemMeans}
-use Rattle.filter_context.specs.EvalContext.{EndsOnceHere, MeansHere, StandsHere, TypedHere}
-use Rattle.filter_context.specs.ContextModel.{ContextModel, environment_of}
+use Rattle.filter_context.specs.private.EvalContext.{EndsOnceHere, MeansHere, StandsHere, TypedHere}
+use Rattle.filter_context.specs.private.ContextModel.{ContextModel, environment_of}
 use Rattle.odata_eval.specs.private.Spending.{CostsHere}
 use Rattle.odata_eval.proofs.spending.Splits.{follows}
 use Rattle.filter_context.proofs.Operands.{AloneHere}

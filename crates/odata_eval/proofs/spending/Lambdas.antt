@@ -23,9 +23,9 @@ use Rattle.odata_eval.specs.declared.budget.Budget.{Budget}
 use Rattle.filter_context.specs.declared.frames.RangeVariable.{RangeVariable}
 use Rattle.odata_eval.specs.declared.stop.EvalStop.{EvalStop}
 use Rattle.odata_eval.specs.private.Lambda.{IsVariableOf, type_of_variable, vals_of}
-use Rattle.filter_context.specs.Place.{HasKind, IsRightOf}
-use Rattle.filter_context.specs.EvalContext.{EndsOnceHere, MeansHere}
-use Rattle.filter_context.specs.ContextModel.{ContextModel, environment_of}
+use Rattle.filter_context.specs.private.Place.{HasKind, IsRightOf}
+use Rattle.filter_context.specs.private.EvalContext.{EndsOnceHere, MeansHere}
+use Rattle.filter_context.specs.private.ContextModel.{ContextModel, environment_of}
 use Rattle.odata_eval.specs.private.Spending.{CostsHere, SpendsMembers, SpendsRest, Spent}
 use Rattle.odata_eval.specs.private.WalkAnswer.{AnswersDatum}
 use Rattle.odata_eval.proofs.spending.Budgets.{spent_same, takes_nothing}

@@ -18,8 +18,8 @@ use Rattle.filter_context.specs.declared.frames.RangeVariable.{RangeVariable}
 use Rattle.odata_eval.specs.declared.stop.EvalStop.{EvalStop}
 use Rattle.filter_context.specs.Frames.{frame_of}
 use Rattle.odata_eval.specs.private.Lambda.{BodyMeans, BodyStands, type_of_variable, vals_of}
-use Rattle.filter_context.specs.EvalContext.{EndsOnceHere}
-use Rattle.filter_context.specs.ContextModel.{ContextModel, environment_of, with_frame}
+use Rattle.filter_context.specs.private.EvalContext.{EndsOnceHere}
+use Rattle.filter_context.specs.private.ContextModel.{ContextModel, environment_of, with_frame}
 use Rattle.odata_eval.specs.private.Spending.{HasFewer, SpendsAt, SpendsMembers, Takes}
 use Rattle.odata_eval.specs.private.WalkAnswer.{AnswersTruth}
 use Rattle.odata_eval.proofs.spending.Budgets.{fewer_first, fewer_then, spent_first, spent_same, spent_then, takes_both, takes_nothing}

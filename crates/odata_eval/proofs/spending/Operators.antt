@@ -16,11 +16,11 @@ use Rattle.odata_meaning.specs.Costs.{CostAfter, CostThen, CostsExactly, RightCo
 use Rattle.odata_filter_operations.specs.TextCosts.{comparison_cost, operator_cost}
 use Rattle.odata_eval.specs.declared.budget.Budget.{Budget}
 use Rattle.odata_eval.specs.declared.stop.EvalStop.{EvalStop}
-use Rattle.filter_context.specs.Place.{HasKind, IsRightOf}
-use Rattle.filter_context.specs.EvalContext.{EndsOnceHere, MeansHere, NumberHere, OperandHere, StandsHere, TypedHere}
-use Rattle.filter_context.specs.ContextModel.{ContextModel}
+use Rattle.filter_context.specs.private.Place.{HasKind, IsRightOf}
+use Rattle.filter_context.specs.private.EvalContext.{EndsOnceHere, MeansHere, NumberHere, OperandHere, StandsHere, TypedHere}
+use Rattle.filter_context.specs.private.ContextModel.{ContextModel}
 use Rattle.odata_eval.specs.private.Spending.{CostsHere, SpendsAt, SpendsRest, Spent, Takes}
-use Rattle.filter_context.specs.AnswersAtPlace.{AnswersAtPlace}
+use Rattle.filter_context.specs.private.AnswersAtPlace.{AnswersAtPlace}
 use Rattle.odata_meaning.proofs.meaning.Reads.{beside}
 use Rattle.odata_eval.proofs.spending.Budgets.{spent_first, spent_same, spent_then}
 use Rattle.odata_eval.proofs.spending.Splits.{Faults, SplitWith, fault_rest, follows, operand_spent, rest_spends}

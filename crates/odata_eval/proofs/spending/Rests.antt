@@ -14,9 +14,9 @@ use Rattle.odata_syntax.specs.Tree.{Tree, binary, node}
 use Rattle.odata_meaning.specs.Costs.{CostAfter, CostThen, CostsExactly, RightCosts}
 use Rattle.odata_eval.specs.declared.budget.Budget.{Budget}
 use Rattle.odata_eval.specs.declared.stop.EvalStop.{EvalStop}
-use Rattle.filter_context.specs.Place.{HasKind, IsRightOf}
-use Rattle.filter_context.specs.EvalContext.{EndsOnceHere, MeansHere, OperandHere, StandsHere, TypedHere}
-use Rattle.filter_context.specs.ContextModel.{ContextModel}
+use Rattle.filter_context.specs.private.Place.{HasKind, IsRightOf}
+use Rattle.filter_context.specs.private.EvalContext.{EndsOnceHere, MeansHere, OperandHere, StandsHere, TypedHere}
+use Rattle.filter_context.specs.private.ContextModel.{ContextModel}
 use Rattle.odata_eval.specs.private.Spending.{CostsHere, SpendsAt, SpendsRest, Spent}
 use Rattle.odata_eval.specs.private.WalkAnswer.{AnswersDatum, AnswersTruth}
 use Rattle.odata_meaning.specs.private.Decided.{IsDecided}

@@ -17,11 +17,11 @@ use Rattle.odata_meaning.specs.Costs.{CostAfter, CostThen}
 use Rattle.odata_eval.specs.declared.budget.Budget.{Budget}
 use Rattle.filter_context.specs.declared.walk_class.WalkClass.{WalkClass}
 use Rattle.odata_eval.specs.declared.stop.EvalStop.{EvalStop}
-use Rattle.filter_context.specs.Place.{HasKind, IsClassAt}
-use Rattle.filter_context.specs.EvalContext.{EndsOnceHere, MeansHere, NumberHere, OperandHere, StandsHere}
-use Rattle.filter_context.specs.ContextModel.{ContextModel}
+use Rattle.filter_context.specs.private.Place.{HasKind, IsClassAt}
+use Rattle.filter_context.specs.private.EvalContext.{EndsOnceHere, MeansHere, NumberHere, OperandHere, StandsHere}
+use Rattle.filter_context.specs.private.ContextModel.{ContextModel}
 use Rattle.odata_eval.specs.private.Spending.{CostsHere, SpendsAt, SpendsRest, Spent}
-use Rattle.filter_context.specs.AnswersAtPlace.{AnswersAtPlace}
+use Rattle.filter_context.specs.private.AnswersAtPlace.{AnswersAtPlace}
 use Rattle.filter_context.specs.WalkClass.{walk_of_kind}
 use Rattle.odata_eval.proofs.spending.Budgets.{spent_first, spent_same, spent_then}
 use Rattle.odata_meaning.proofs.costs.Zero.{IsFree}

@@ -4,7 +4,7 @@ use Rattle.edm_values.specs.declared.datum.Datum.{Datum}
 use Rattle.odata_filter_operations.specs.declared.eval_fault.EvalFault.{EvalFault}
 use Rattle.odata_eval.specs.declared.budget.Budget.{Budget}
 use Rattle.odata_eval.specs.declared.stop.EvalStop.{EvalStop}
-use Rattle.filter_context.specs.ContextModel.{ContextModel}
+use Rattle.filter_context.specs.private.ContextModel.{ContextModel}
 use Rattle.odata_eval.specs.private.Spending.{CountedDatum, CountedNumber, CountedTruth, SpendsAt, SpendsRest, Spent, Takes, as_stop, datum_as_stop, datum_stop, number_as_stop, stopped_by}
 use Rattle.odata_eval.specs.private.WalkAnswer.{AnswersDatum, AnswersNumber, AnswersTruth}
 use Rattle.odata_eval.proofs.spending.Budgets.{spent_nothing, takes_nothing}

@@ -11,8 +11,8 @@ use Rattle.odata_checked_filter.specs.FlatTree.{FlatTree}
 use Rattle.odata_filter_operations.specs.TruthGives.{joined, truth_val}
 use Rattle.odata_filter_operations.specs.declared.eval_fault.EvalFault.{EvalFault}
 use Rattle.filter_context.specs.declared.walk_class.WalkClass.{WalkClass}
-use Rattle.filter_context.specs.Place.{HasOperator, IsClassAt, IsRightOf, OperandStands, PartStands, TruthStands}
-use Rattle.filter_context.specs.ContextModel.{ContextModel}
+use Rattle.filter_context.specs.private.Place.{HasOperator, IsClassAt, IsRightOf, OperandStands, PartStands, TruthStands}
+use Rattle.filter_context.specs.private.ContextModel.{ContextModel}
 use Rattle.odata_eval.specs.private.WalkAnswer.{AnswersKept, AnswersTruth}
 use Rattle.odata_meaning.specs.private.Decided.{IsDecided}
 use Rattle.filter_context.specs.WalkClass.{walk_of_operator}

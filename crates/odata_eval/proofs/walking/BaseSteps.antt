@@ -18,9 +18,9 @@ use Rattle.odata_filter_operations.specs.LeftFirst.{After}
 use Rattle.odata_filter_operations.specs.Outcome.{Outcome, gives}
 use Rattle.odata_filter_operations.specs.DatumView.{answer_outcome, reading_at}
 use Rattle.odata_filter_operations.specs.Collections.{HasMembers}
-use Rattle.filter_context.specs.Place.{HasKind, PartStands}
-use Rattle.filter_context.specs.EvalContext.{EndsOnceHere, MeansHere, StandsHere, TypedHere}
-use Rattle.filter_context.specs.ContextModel.{ContextModel}
+use Rattle.filter_context.specs.private.Place.{HasKind, PartStands}
+use Rattle.filter_context.specs.private.EvalContext.{EndsOnceHere, MeansHere, StandsHere, TypedHere}
+use Rattle.filter_context.specs.private.ContextModel.{ContextModel}
 use Rattle.odata_eval.specs.private.WalkAnswer.{AnswersDatum}
 use Rattle.filter_context.proofs.Children.{only_child}
 use Rattle.filter_context.proofs.Operands.{HasNone, no_number}

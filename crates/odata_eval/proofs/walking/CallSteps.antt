@@ -21,12 +21,12 @@ use Rattle.odata_filter_operations.specs.Outcome.{Outcome, gives}
 use Rattle.odata_filter_operations.specs.FaultView.{fault_outcome}
 use Rattle.odata_filter_operations.specs.FunctionCalls.{Applies, AreArguments, IsArgument, MakesText}
 use Rattle.odata_filter_operations.specs.DatumView.{answer_outcome, reading_at}
-use Rattle.filter_context.specs.Place.{HasKind, IsStopOf, PartStands}
-use Rattle.filter_context.specs.EvalContext.{EndsOnceHere, MeansHere, StandsHere, TypedHere}
-use Rattle.filter_context.specs.ContextModel.{ContextModel}
+use Rattle.filter_context.specs.private.Place.{HasKind, IsStopOf, PartStands}
+use Rattle.filter_context.specs.private.EvalContext.{EndsOnceHere, MeansHere, StandsHere, TypedHere}
+use Rattle.filter_context.specs.private.ContextModel.{ContextModel}
 use Rattle.odata_filter_operations.specs.Reports.{Reports}
 use Rattle.odata_eval.specs.private.WalkAnswer.{AllAnswered, AnswersDatum}
-use Rattle.filter_context.specs.AnswersAtPlace.{AnswersAtPlace}
+use Rattle.filter_context.specs.private.AnswersAtPlace.{AnswersAtPlace}
 use Rattle.odata_meaning.proofs.meaning.CallEnds.{HaveTypes, applies_of}
 use Rattle.filter_context.proofs.Operands.{no_number}
 use Rattle.filter_context.proofs.Parts.{by_kind, reports_there}

@@ -20,11 +20,11 @@ use Rattle.odata_filter_operations.specs.CalculationGives.{number_val}
 use Rattle.odata_filter_operations.specs.Outcome.{gives}
 use Rattle.odata_filter_operations.specs.TruthGives.{truth_val}
 use Rattle.odata_filter_operations.specs.DatumView.{reading_at}
-use Rattle.filter_context.specs.Place.{HasOperator, IsRightOf, PartStands}
-use Rattle.filter_context.specs.EvalContext.{EndsOnceHere}
-use Rattle.filter_context.specs.ContextModel.{ContextModel}
+use Rattle.filter_context.specs.private.Place.{HasOperator, IsRightOf, PartStands}
+use Rattle.filter_context.specs.private.EvalContext.{EndsOnceHere}
+use Rattle.filter_context.specs.private.ContextModel.{ContextModel}
 use Rattle.odata_eval.specs.private.WalkAnswer.{AnswersDatum, AnswersKept, AnswersNumber, AnswersTruth}
-use Rattle.filter_context.specs.AnswersAtPlace.{AnswersAtPlace}
+use Rattle.filter_context.specs.private.AnswersAtPlace.{AnswersAtPlace}
 use Rattle.odata_meaning.proofs.meaning.Kinds.{comparable_values}
 use Rattle.odata_eval.proofs.walking.KeptValues.{at_contents, at_types}
 use Rattle.filter_context.proofs.Parts.{some_there}

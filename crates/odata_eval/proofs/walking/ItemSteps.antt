@@ -34,12 +34,12 @@ use Rattle.odata_filter_operations.specs.Outcome.{Outcome, divides_by_zero, give
 use Rattle.odata_filter_operations.specs.QuantifierGives.{Passes, QuantifierGives}
 use Rattle.odata_filter_operations.specs.FaultView.{fault_outcome}
 use Rattle.odata_filter_operations.specs.DatumView.{reading_at}
-use Rattle.filter_context.specs.Place.{HasKind, IsRightOf, IsStopOf, OperandStands, PartStands}
-use Rattle.filter_context.specs.EvalContext.{EndsOnceHere, MeansHere, OperandHere, StandsHere, TypedHere}
-use Rattle.filter_context.specs.ContextModel.{ContextModel, environment_of}
+use Rattle.filter_context.specs.private.Place.{HasKind, IsRightOf, IsStopOf, OperandStands, PartStands}
+use Rattle.filter_context.specs.private.EvalContext.{EndsOnceHere, MeansHere, OperandHere, StandsHere, TypedHere}
+use Rattle.filter_context.specs.private.ContextModel.{ContextModel, environment_of}
 use Rattle.odata_filter_operations.specs.Reports.{Reports}
 use Rattle.odata_eval.specs.private.WalkAnswer.{AnswersDatum}
-use Rattle.filter_context.specs.AnswersAtPlace.{AnswersAtPlace}
+use Rattle.filter_context.specs.private.AnswersAtPlace.{AnswersAtPlace}
 use Rattle.odata_meaning.proofs.meaning.Kinds.{comparable_values}
 use Rattle.odata_meaning.proofs.meaning.Reads.{number_comparable, read_has}
 use Rattle.odata_eval.proofs.walking.CallSteps.{behind_first}

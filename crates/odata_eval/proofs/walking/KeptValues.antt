@@ -10,11 +10,11 @@ use Rattle.csdl_schema.specs.SchemaModel.{Slots, slots_of}
 use Rattle.edm_entities.specs.Row.{ValAtType, val_of, val_step}
 use Rattle.odata_functions.specs.KeptVal.{Contents, kept_val}
 use Rattle.odata_filter_operations.specs.Outcome.{gives}
-use Rattle.filter_context.specs.Place.{TypedStands}
-use Rattle.filter_context.specs.EvalContext.{EndsOnceHere}
-use Rattle.filter_context.specs.ContextModel.{ContextModel}
+use Rattle.filter_context.specs.private.Place.{TypedStands}
+use Rattle.filter_context.specs.private.EvalContext.{EndsOnceHere}
+use Rattle.filter_context.specs.private.ContextModel.{ContextModel}
 use Rattle.odata_eval.specs.private.WalkAnswer.{AnswersKept}
-use Rattle.filter_context.specs.AnswersAtPlace.{AnswersAtPlace}
+use Rattle.filter_context.specs.private.AnswersAtPlace.{AnswersAtPlace}
 use Rattle.odata_eval.proofs.walking.Leaves.{plain_is}
 use Rattle.odata_eval.proofs.walking.Readings.{IsPlain, PlainValues}
 use Rattle.odata_eval.proofs.walking.WalkValues.{same_values, typed_value}

@@ -31,9 +31,9 @@ use Rattle.odata_filter_operations.specs.declared.eval_fault.EvalFault.{EvalFaul
 use Rattle.filter_context.specs.declared.frames.RangeVariable.{RangeVariable}
 use Rattle.odata_filter_operations.specs.DatumView.{answer_outcome, reading_at}
 use Rattle.odata_eval.specs.private.Lambda.{AnswersMembers, BodyIsThere, BodyMeans, IsOverMembers, IsVariableOf, Suits, body_scope, type_of_variable, vals_of}
-use Rattle.filter_context.specs.Place.{HasKind, IsRightOf, PartStands}
-use Rattle.filter_context.specs.EvalContext.{EndsOnceHere, MeansHere, StandsHere, TypedHere}
-use Rattle.filter_context.specs.ContextModel.{ContextModel, environment_of}
+use Rattle.filter_context.specs.private.Place.{HasKind, IsRightOf, PartStands}
+use Rattle.filter_context.specs.private.EvalContext.{EndsOnceHere, MeansHere, StandsHere, TypedHere}
+use Rattle.filter_context.specs.private.ContextModel.{ContextModel, environment_of}
 use Rattle.odata_filter_operations.specs.Reports.{Reports}
 use Rattle.odata_eval.specs.private.WalkAnswer.{AnswersDatum, AnswersTruth}
 use Rattle.odata_meaning.proofs.meaning.OneByOne.{members_one_by_one}

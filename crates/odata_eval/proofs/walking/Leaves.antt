@@ -17,9 +17,9 @@ use Rattle.odata_meaning.specs.Environment.{scope_of, variable_value}
 use Rattle.odata_meaning.specs.NameGives.{FoundGives}
 use Rattle.odata_filter_operations.specs.Outcome.{Outcome, gives}
 use Rattle.filter_context.specs.Frames.{StandsAtLevel, names_of}
-use Rattle.filter_context.specs.Place.{HasKind, IsRightOf, IsStopOf, OperandStands}
-use Rattle.filter_context.specs.EvalContext.{HoldsAt, MeansHere, NumberHere, StandsHere, TypedHere}
-use Rattle.filter_context.specs.ContextModel.{ContextModel, environment_of}
+use Rattle.filter_context.specs.private.Place.{HasKind, IsRightOf, IsStopOf, OperandStands}
+use Rattle.filter_context.specs.private.EvalContext.{HoldsAt, MeansHere, NumberHere, StandsHere, TypedHere}
+use Rattle.filter_context.specs.private.ContextModel.{ContextModel, environment_of}
 use Rattle.odata_eval.specs.private.WalkAnswer.{AnswersKept}
 use Rattle.odata_signatures.specs.Functions.{IsNamed, row_of}
 use Rattle.odata_signatures.specs.declared.function.Function.{Function}

@@ -20,9 +20,9 @@ use Rattle.odata_meaning.specs.NameGives.{StepGives}
 use Rattle.odata_meaning.specs.Environment.{scope_of}
 use Rattle.odata_filter_operations.specs.Outcome.{gives}
 use Rattle.odata_filter_operations.specs.DatumView.{HasSlot, IsDatumOf, IsStepOf, reading_at}
-use Rattle.filter_context.specs.Place.{HasKind, PartStands}
-use Rattle.filter_context.specs.EvalContext.{EndsOnceHere, MeansHere, TypedHere}
-use Rattle.filter_context.specs.ContextModel.{ContextModel, environment_of}
+use Rattle.filter_context.specs.private.Place.{HasKind, PartStands}
+use Rattle.filter_context.specs.private.EvalContext.{EndsOnceHere, MeansHere, TypedHere}
+use Rattle.filter_context.specs.private.ContextModel.{ContextModel, environment_of}
 use Rattle.odata_eval.specs.private.WalkAnswer.{AnswersDatum, AnswersKept}
 use Rattle.odata_meaning.proofs.meaning.Progress.{field_gives}
 use Rattle.odata_meaning.proofs.meaning.TypeValues.{held_present}

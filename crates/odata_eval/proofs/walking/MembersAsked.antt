@@ -20,10 +20,10 @@ use Rattle.odata_filter_operations.specs.declared.eval_fault.EvalFault.{EvalFaul
 use Rattle.filter_context.specs.declared.frames.RangeVariable.{RangeVariable}
 use Rattle.filter_context.specs.Frames.{frame_of}
 use Rattle.odata_eval.specs.private.Lambda.{AnswersMembers, BodyIsThere, BodyMeans, BodyStands, BodyTyped, type_of_variable, vals_of}
-use Rattle.filter_context.specs.Place.{TruthStands}
-use Rattle.filter_context.specs.ContextModel.{ContextModel, with_frame}
+use Rattle.filter_context.specs.private.Place.{TruthStands}
+use Rattle.filter_context.specs.private.ContextModel.{ContextModel, with_frame}
 use Rattle.odata_eval.specs.private.WalkAnswer.{AnswersTruth}
-use Rattle.filter_context.specs.AnswersAtPlace.{AnswersAtPlace}
+use Rattle.filter_context.specs.private.AnswersAtPlace.{AnswersAtPlace}
 use Rattle.odata_meaning.proofs.meaning.OneByOne.{passes_on}
 use Rattle.filter_context.proofs.Parts.{reports_there}
 use Rattle.filter_context.proofs.Spines.{fault_stays}

@@ -15,7 +15,7 @@ use Rattle.odata_signatures.specs.declared.edm_type.ValueType.{ValueType}
 use Rattle.odata_filter_operations.specs.CalculationGives.{number_val}
 use Rattle.odata_filter_operations.specs.TruthGives.{truth_val}
 use Rattle.odata_filter_operations.specs.Operators.{AreNumbers, IsOneNumber}
-use Rattle.filter_context.specs.Place.{IsNumberOperand}
+use Rattle.filter_context.specs.private.Place.{IsNumberOperand}
 use Rattle.odata_meaning.proofs.meaning.Kinds.{truth_of}
 use Rattle.odata_meaning.proofs.meaning.Numbers.{IsNumberIn, number_in}
 

@@ -16,7 +16,7 @@ use Rattle.edm_entities.specs.Row.{Row, val_of, value_of, field_of, field_by_nam
 use Rattle.odata_meaning.specs.NameGives.{StepGives}
 use Rattle.odata_filter_operations.specs.Outcome.{gives}
 use Rattle.odata_signatures.specs.Typed.{PropertyTyped, named_type, property_named}
-use Rattle.filter_context.specs.EvalContext.{HoldsAt}
+use Rattle.filter_context.specs.private.EvalContext.{HoldsAt}
 use Rattle.odata_meaning.proofs.meaning.Progress.{field_gives}
 
 pub val_of-Record : (slots : Slots) (type : ExprType) (v : Vec Value Global) → val_of (Record v) slots.properties type ≡ record_of slots.properties type (map val_of v.items)

@@ -8,9 +8,9 @@ use Rattle.edm_values.specs.declared.datum.Datum.TheVariants as datum
 use Rattle.edm_values.specs.declared.value.Value.{Value, Text}
 use Rattle.odata_signatures.specs.declared.function.Function.{Function}
 use Rattle.odata_eval.specs.private.KeptOperands.{AnswersCall, AnswersLast, AnswersText}
-use Rattle.filter_context.specs.Place.{HasCall, IsStopOf, PartStands}
-use Rattle.filter_context.specs.EvalContext.{EndsOnceHere}
-use Rattle.filter_context.specs.ContextModel.{ContextModel}
+use Rattle.filter_context.specs.private.Place.{HasCall, IsStopOf, PartStands}
+use Rattle.filter_context.specs.private.EvalContext.{EndsOnceHere}
+use Rattle.filter_context.specs.private.ContextModel.{ContextModel}
 use Rattle.odata_eval.specs.private.WalkAnswer.{AnswersKept}
 use Rattle.odata_eval.proofs.walking.CallSteps.{OneName, argument_stands, call_gives, first_argument}
 use Rattle.odata_eval.proofs.walking.KeptValues.{kept_value}

@@ -18,9 +18,9 @@ use Rattle.odata_filter_operations.specs.Outcome.{Outcome}
 use Rattle.odata_filter_operations.specs.TruthGives.{truth_val}
 use Rattle.odata_filter_operations.specs.FaultView.{fault_outcome}
 use Rattle.odata_filter_operations.specs.DatumView.{answer_outcome}
-use Rattle.filter_context.specs.Place.{TruthStands}
-use Rattle.filter_context.specs.EvalContext.{EndsOnceHere, MeansHere, StandsHere, TypedHere}
-use Rattle.filter_context.specs.ContextModel.{ContextModel, environment_of, context_in}
+use Rattle.filter_context.specs.private.Place.{TruthStands}
+use Rattle.filter_context.specs.private.EvalContext.{EndsOnceHere, MeansHere, StandsHere, TypedHere}
+use Rattle.filter_context.specs.private.ContextModel.{ContextModel, environment_of, context_in}
 use Rattle.odata_filter_operations.specs.Reports.{Reports}
 use Rattle.odata_eval.specs.private.WalkAnswer.{AnswersTruth}
 

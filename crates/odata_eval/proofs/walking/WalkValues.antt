@@ -12,11 +12,11 @@ use Rattle.odata_functions.specs.DatumVal.{Reading, datum_val}
 use Rattle.odata_meaning.specs.EndsOnce.{IsOutcomeOf}
 use Rattle.odata_filter_operations.specs.Outcome.{Outcome, gives}
 use Rattle.odata_filter_operations.specs.DatumView.{IsDatumOf, reading_at}
-use Rattle.filter_context.specs.Place.{TypedStands}
-use Rattle.filter_context.specs.EvalContext.{EndsOnceHere, MeansHere, TypedHere}
-use Rattle.filter_context.specs.ContextModel.{ContextModel}
+use Rattle.filter_context.specs.private.Place.{TypedStands}
+use Rattle.filter_context.specs.private.EvalContext.{EndsOnceHere, MeansHere, TypedHere}
+use Rattle.filter_context.specs.private.ContextModel.{ContextModel}
 use Rattle.odata_eval.specs.private.WalkAnswer.{AnswersDatum, AnswersKept}
-use Rattle.filter_context.specs.AnswersAtPlace.{AnswersAtPlace}
+use Rattle.filter_context.specs.private.AnswersAtPlace.{AnswersAtPlace}
 use Rattle.odata_eval.proofs.walking.Readings.{PlainValues, value_read}
 
 -- what a tree evaluates to is of its type

@@ -8,9 +8,9 @@ use Rattle.odata_checked_filter.specs.declared.checked_node.NodeKind.{NodeKind}
 use Rattle.odata_filter_operations.specs.FunctionGives.{FunctionGives}
 use Rattle.odata_filter_operations.specs.Outcome.{Outcome, gives}
 use Rattle.filter_context.specs.declared.walk_class.WalkClass.{WalkClass}
-use Rattle.filter_context.specs.Place.{HasKind, IsClassAt}
-use Rattle.filter_context.specs.ContextModel.{ContextModel}
-use Rattle.filter_context.specs.AnswersAtPlace.{AnswersAtPlace}
+use Rattle.filter_context.specs.private.Place.{HasKind, IsClassAt}
+use Rattle.filter_context.specs.private.ContextModel.{ContextModel}
+use Rattle.filter_context.specs.private.AnswersAtPlace.{AnswersAtPlace}
 
 -- a leaf stands there, or a step from one
 abbrev pub IsPathAt : FlatTree → ℕ → Type 0

@@ -5,8 +5,8 @@ use Rattle.odata_syntax.specs.declared.binary_operator.LogicalOperator.{LogicalO
 use Rattle.odata_eval.specs.declared.and_chain.PlainTerms.{PlainTerms}
 use Rattle.odata_eval.specs.declared.and_chain.RemainingTerms.{RemainingTerms}
 use Rattle.odata_filter_operations.specs.declared.eval_fault.EvalFault.{EvalFault}
-use Rattle.filter_context.specs.Place.{HasOperator, TruthStands}
-use Rattle.filter_context.specs.ContextModel.{ContextModel}
+use Rattle.filter_context.specs.private.Place.{HasOperator, TruthStands}
+use Rattle.filter_context.specs.private.ContextModel.{ContextModel}
 use Rattle.odata_eval.specs.private.WalkAnswer.{AnswersTruth}
 
 -- the next term stands there; the first nodes, so many, are `and`s, and what is answered of the term is answered of the

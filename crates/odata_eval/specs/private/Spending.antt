@@ -18,8 +18,8 @@ use Rattle.odata_eval.specs.declared.budget.Budget.{Budget}
 use Rattle.filter_context.specs.declared.frames.RangeVariable.{RangeVariable}
 use Rattle.odata_eval.specs.declared.stop.EvalStop.{EvalStop}
 use Rattle.odata_eval.specs.private.Lambda.{AnswersMembers, BodyMeans, BodyStands, type_of_variable, vals_of}
-use Rattle.filter_context.specs.EvalContext.{NumberHere, StandsHere, TypedHere}
-use Rattle.filter_context.specs.ContextModel.{ContextModel, environment_of}
+use Rattle.filter_context.specs.private.EvalContext.{NumberHere, StandsHere, TypedHere}
+use Rattle.filter_context.specs.private.ContextModel.{ContextModel, environment_of}
 use Rattle.odata_eval.specs.private.WalkAnswer.{AnswersDatum, AnswersNumber, AnswersTruth}
 
 -- ---- answers that may stop for their cost, of which nothing is said then

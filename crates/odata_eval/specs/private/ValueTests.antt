@@ -17,7 +17,7 @@ use Rattle.odata_eval.specs.FalseWhere.{IsFalseWhere}
 use Rattle.odata_eval.specs.TrueWhere.{Passes, PassesIn}
 use Rattle.odata_eval.specs.declared.value_tests.SlotSieve.{SlotSieve}
 use Rattle.odata_meaning.specs.Means.{Means}
-use Rattle.filter_context.specs.Place.{HasOperator}
+use Rattle.filter_context.specs.private.Place.{HasOperator}
 use Rattle.odata_filter_operations.specs.Outcome.{Outcome, gives, overflow, divides_by_zero}
 
 -- it is no fault

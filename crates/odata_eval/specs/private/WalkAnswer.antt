@@ -12,9 +12,9 @@ use Rattle.odata_filter_operations.specs.CalculationGives.{number_val}
 use Rattle.odata_filter_operations.specs.Outcome.{gives}
 use Rattle.odata_filter_operations.specs.TruthGives.{truth_val}
 use Rattle.odata_filter_operations.specs.DatumView.{answer_outcome, reading_at}
-use Rattle.filter_context.specs.Place.{IsClassAt, IsStopOf}
-use Rattle.filter_context.specs.AnswersAtPlace.{AnswersAtPlace}
-use Rattle.filter_context.specs.ContextModel.{ContextModel}
+use Rattle.filter_context.specs.private.Place.{IsClassAt, IsStopOf}
+use Rattle.filter_context.specs.private.AnswersAtPlace.{AnswersAtPlace}
+use Rattle.filter_context.specs.private.ContextModel.{ContextModel}
 
 -- an answer that may be of any type is an outcome of what stands at the index
 abbrev pub AnswersDatum : ContextModel → ℕ → Result Datum EvalFault → Type 0

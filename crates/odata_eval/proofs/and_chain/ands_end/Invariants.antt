@@ -1,5 +1,5 @@
 use Rattle.std.proofs.Common.{◌-◌, length}
-use Rattle.filter_context.specs.Place.{TruthStands}
+use Rattle.filter_context.specs.private.Place.{TruthStands}
 use Rattle.odata_eval.proofs.walking.AndChains.{AndsBefore}
 use Rattle.odata_eval.proofs.and_chain.ands_end.Given as goal
 

@@ -2,7 +2,7 @@ use Rattle.std.proofs.Common.{ℕ, ◌<◌, Bool, Option, Result}
 use Rattle.odata_filter_operations.specs.declared.eval_fault.EvalFault.{EvalFault}
 use Rattle.odata_syntax.specs.declared.binary_operator.BinaryOperator.{BinaryOperator}
 use Rattle.odata_syntax.specs.declared.binary_operator.LogicalOperator.{LogicalOperator}
-use Rattle.filter_context.specs.Place.{HasOperator, TruthStands}
+use Rattle.filter_context.specs.private.Place.{HasOperator, TruthStands}
 use Rattle.odata_eval.specs.private.WalkAnswer.{AnswersTruth}
 use Rattle.odata_eval.proofs.and_chain.ask_plain_terms.Given as goal
 

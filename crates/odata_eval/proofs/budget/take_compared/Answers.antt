@@ -2,7 +2,7 @@ use Rattle.std.proofs.Common.{subst, sym}
 use Rattle.edm_values.specs.declared.datum.Datum.{Datum}
 use Rattle.odata_filter_operations.specs.Collections.{AreComparedIn}
 use Rattle.odata_meaning.specs.Costs.{item_cost}
-use Rattle.filter_context.specs.ContextModel.{environment_of}
+use Rattle.filter_context.specs.private.ContextModel.{environment_of}
 use Rattle.odata_eval.specs.private.Spending.{IsTaken, path_due}
 use Rattle.odata_eval.proofs.spending.Compared.{taken_unbounded}
 use Rattle.odata_eval.proofs.budget.take_compared.Goals as goal

@@ -3,7 +3,7 @@ use Rattle.std.proofs.lemmas.Option.{slice_get_read}
 use Rattle.edm_values.specs.declared.value.Value.{Value}
 use Rattle.csdl_schema.specs.SchemaModel.{slots_of}
 use Rattle.odata_meaning.specs.Costs.{item_cost}
-use Rattle.filter_context.specs.ContextModel.{environment_of}
+use Rattle.filter_context.specs.private.ContextModel.{environment_of}
 use Rattle.odata_eval.specs.private.Spending.{HasFewer, IsTaken, Takes, members_due, stored_cost}
 use Rattle.odata_eval.proofs.spending.Budgets.{takes_nothing}
 use Rattle.odata_eval.proofs.spending.Compared.{compared_within, first_short, found_at, member_paid, second_short}

@@ -1,5 +1,5 @@
 use Rattle.odata_meaning.specs.Costs.{item_cost}
-use Rattle.filter_context.specs.ContextModel.{environment_of}
+use Rattle.filter_context.specs.private.ContextModel.{environment_of}
 use Rattle.odata_eval.specs.private.Spending.{Takes, members_due}
 use Rattle.odata_eval.proofs.budget.take_members.Given as goal
 

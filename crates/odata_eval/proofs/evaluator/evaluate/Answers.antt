@@ -1,5 +1,5 @@
 use Rattle.std.proofs.Common.{[], Ok, Some, refl}
-use Rattle.filter_context.specs.ContextModel.{context_in}
+use Rattle.filter_context.specs.private.ContextModel.{context_in}
 use Rattle.odata_eval.proofs.walking.TopNode.{top_outcome}
 use Rattle.odata_eval.proofs.evaluator.evaluate.Goals as goal
 

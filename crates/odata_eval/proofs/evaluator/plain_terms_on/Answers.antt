@@ -1,7 +1,7 @@
 use Rattle.std.proofs.Common.{subst, sym}
 use Rattle.odata_eval.specs.private.RemainingTerms.{ReportsTerms}
-use Rattle.filter_context.specs.EvalContext.{EndsOnceHere}
-use Rattle.filter_context.specs.ContextModel.{ContextModel}
+use Rattle.filter_context.specs.private.EvalContext.{EndsOnceHere}
+use Rattle.filter_context.specs.private.ContextModel.{ContextModel}
 use Rattle.odata_eval.proofs.walking.TopNode.{context_is, top_stands}
 use Rattle.odata_eval.proofs.evaluator.plain_terms_on.Goals as goal
 

@@ -3,7 +3,7 @@ use Rattle.std.proofs.lemmas.Option.{slice_get_read}
 use Rattle.edm_values.specs.declared.value.Value.{Value}
 use Rattle.odata_checked_filter.specs.declared.checked_node.CheckedNode.{CheckedNode}
 use Rattle.odata_checked_filter.specs.declared.checked_node.NodeKind.{NodeKind}
-use Rattle.filter_context.specs.Place.{HasKind}
+use Rattle.filter_context.specs.private.Place.{HasKind}
 use Rattle.odata_eval.proofs.walking.FalseTerms.{compared_sieve}
 use Rattle.filter_context.proofs.Parts.{there_found}
 use Rattle.odata_eval.proofs.value_tests.compared_sieve.Goals as goal

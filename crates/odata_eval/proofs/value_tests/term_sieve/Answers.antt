@@ -1,6 +1,6 @@
 use Rattle.std.proofs.Common.{◌∙◌, ap, subst}
 use Rattle.odata_checked_filter.specs.declared.checked_node.NodeKind.{NodeKind}
-use Rattle.filter_context.specs.Place.{HasKind}
+use Rattle.filter_context.specs.private.Place.{HasKind}
 use Rattle.odata_eval.proofs.walking.FalseTerms.{property_sieve}
 use Rattle.odata_eval.proofs.value_tests.term_sieve.Goals as goal
 

@@ -1,5 +1,5 @@
 use Rattle.std.proofs.Common.{ℕ, ◌<◌, ◌≤◌, ◌-◌}
-use Rattle.filter_context.specs.Place.{IsClassAt}
+use Rattle.filter_context.specs.private.Place.{IsClassAt}
 use Rattle.odata_eval.proofs.walk_operand.spine_bottom.Given as goal
 
 abbrev pub invariant-loop-place : goal.invariant-loop-place

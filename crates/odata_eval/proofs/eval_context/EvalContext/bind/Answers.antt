@@ -4,7 +4,7 @@ use Rattle.edm_entities.specs.Row.{Row}
 use Rattle.odata_meaning.specs.Environment.{IsFitting}
 use Rattle.filter_context.specs.Frames.{Frame, environment_in, frame_of, frames_in}
 use Rattle.odata_eval.specs.private.Lambda.{Suits}
-use Rattle.filter_context.specs.ContextModel.{IsBeside, ContextModel, context_in}
+use Rattle.filter_context.specs.private.ContextModel.{IsBeside, ContextModel, context_in}
 use Rattle.filter_context.proofs.Variables.{frames_in-Bound}
 use Rattle.odata_eval.proofs.eval_context.EvalContext.bind.Goals as goal
 

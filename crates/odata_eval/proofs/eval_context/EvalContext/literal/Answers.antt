@@ -1,7 +1,7 @@
 use Rattle.std.proofs.Common.{◌≡◌, ◌∙◌, ◌<◌, List, ap, arith, length, refl, slice_get, sym}
 use Rattle.std.proofs.lemmas.Option.{slice_get_read}
 use Rattle.edm_values.specs.declared.value.Value.{Value}
-use Rattle.filter_context.specs.ContextModel.{ContextModel}
+use Rattle.filter_context.specs.private.ContextModel.{ContextModel}
 use Rattle.odata_eval.proofs.eval_context.EvalContext.literal.Goals as goal
 
 pub offset_bounds-values-place : goal.offset_bounds-values-place

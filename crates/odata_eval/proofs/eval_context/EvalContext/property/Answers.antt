@@ -3,8 +3,8 @@ use Rattle.std.proofs.lemmas.Option.{slice_get_read}
 use Rattle.edm_values.specs.declared.value.Value.{Value, Record, the_lemmas}
 use Rattle.csdl_schema.specs.SchemaModel.{properties_at}
 use Rattle.odata_checked_filter.specs.declared.checked_node.CheckedNode.{CheckedNode}
-use Rattle.filter_context.specs.EvalContext.{HoldsAt}
-use Rattle.filter_context.specs.ContextModel.{IsContext, ContextModel}
+use Rattle.filter_context.specs.private.EvalContext.{HoldsAt}
+use Rattle.filter_context.specs.private.ContextModel.{IsContext, ContextModel}
 use Rattle.odata_eval.proofs.eval_context.EvalContext.property.Goals as goal
 
 -- there are as many values as properties

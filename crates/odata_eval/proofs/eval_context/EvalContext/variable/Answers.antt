@@ -2,7 +2,7 @@ use Rattle.std.proofs.Common.{◌≡◌, ◌∙◌, ◌<◌, List, [], ◌∷◌
 use Rattle.csdl_schema.specs.SchemaModel.{slots_of}
 use Rattle.filter_context.specs.declared.frames.Frames.{Frames}
 use Rattle.filter_context.specs.Frames.{Frame, StandsAtLevel, frame_of, frames_in, names_of}
-use Rattle.filter_context.specs.ContextModel.{ContextModel, environment_of}
+use Rattle.filter_context.specs.private.ContextModel.{ContextModel, environment_of}
 use Rattle.filter_context.proofs.Variables.{bound_frames, frames_in-Empty, only_variable}
 use Rattle.odata_eval.proofs.eval_context.EvalContext.variable.Goals as goal
 

@@ -1,7 +1,7 @@
 use Rattle.std.proofs.Common.{subst}
 use Rattle.csdl_schema.specs.SchemaModel.{slots_of}
 use Rattle.filter_context.specs.Frames.{StandsAtLevel}
-use Rattle.filter_context.specs.ContextModel.{ContextModel, environment_of}
+use Rattle.filter_context.specs.private.ContextModel.{ContextModel, environment_of}
 use Rattle.odata_eval.proofs.eval_context.EvalContext.variable_among.Goals as goal
 
 pub returns : goal.returns
