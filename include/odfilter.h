@@ -26,12 +26,13 @@
  * BYTES are borrowed for the call and no longer. They are not changed, need no NUL at their end, and may have
  * any values; where a call takes a text, bytes that are not UTF-8 are ODFILTER_NOT_UTF8. A length of 0
  * is an empty text, at any address, NULL too. NULL with another length is ODFILTER_NULL, and so is any other address
- * that is NULL: then nothing is looked at and nothing written. A length is less than 2^63.
+ * that is NULL, but for buffers: then nothing is looked at and nothing written. A length is less than 2^63.
  *
  * BUFFERS, each an odfilter_buffer, are the caller's: a call writes a text into one, without a NUL after it. A text is
  * written whole or not at all: where it has more bytes than the buffer, the status is ODFILTER_TOO_SMALL, `length` of
- * the answer is how many are needed, and the buffer is unchanged. A buffer of length 0 at any address that is not NULL
- * asks for the length.
+ * the answer is how many are needed, and the buffer is unchanged. A buffer of length 0 asks for the length, at any
+ * address; NULL is one where a text is all that the call writes, and not of odfilter_read_schema, odfilter_check_url and
+ * odfilter_filter_lines. NULL with another length is ODFILTER_NULL.
  *
  * HANDLES are made by calls that take an `odfilter_handle **`: where they return ODFILTER_OK it points to the new
  * handle, and else, but for ODFILTER_NULL, to NULL. Initialise the variable to NULL, and free a handle in it before the
@@ -221,6 +222,26 @@ uint32_t odfilter_read_schema(odfilter_bytes document, odfilter_buffer names, od
  * ODFILTER_OTHER_KIND: `schema` is not a schema. ODFILTER_NOT_UTF8. ODFILTER_MEMORY. */
 uint32_t odfilter_find_type(const odfilter_handle *schema, odfilter_bytes name, odfilter_handle **type);
 
+/* Writes the entity and complex types of a schema, or a type alone, in lines: of each its kind and name, and then its
+ * properties, those of its base first.
+ *
+ *     entity Mini.Item
+ *       ID Edm.Int32
+ *       Name Edm.String nullable
+ *       Parts Collection(Mini.Part) navigation
+ *       Weight ? not read
+ *     complex Mini.Part
+ *       Size Edm.Byte
+ *
+ * Each line ends with a line feed. That of a property has two spaces, its name and its type, `?` where its type is not
+ * read, so that neither a filter nor a row can have it; after these whether it is `nullable`, a `navigation` property
+ * and `not read`, in this order. Types, and the own properties of each, stand in the byte order of their names. Further
+ * words may be added at the end of a line.
+ *
+ * ODFILTER_OK: `length` bytes have been written. ODFILTER_TOO_SMALL: `length` are needed. ODFILTER_NULL: any of the
+ * three is. ODFILTER_OTHER_KIND: `given` is neither a schema nor a type. ODFILTER_MEMORY. */
+uint32_t odfilter_types(const odfilter_handle *given, odfilter_buffer text, odfilter_answer *answer);
+
 /* ---- Filters */
 
 /* Checks a filter of the entities of a type.
@@ -320,9 +341,9 @@ uint32_t odfilter_set_moment(odfilter_handle *judge, odfilter_bytes moment);
 
 /* Bounds what a filter may cost on a row: how many times it judges the body of an any() or all(), and how many items of
  * lists and members of collections it compares after `in` within one; also, anywhere, the whole KiB of each text that a
- * comparison or a function takes, and 16 times those of each text that concat, tolower or toupper makes. Each row has
- * the whole bound, and so has each line of odfilter_filter_lines. Without this call there is none. The cost does not
- * measure time: a body counts 1, however long it is.
+ * comparison takes, 8 times those of each text that a function takes, and 16 times those of each that concat, tolower or
+ * toupper makes. Each row has the whole bound, and so has each line of odfilter_filter_lines. Without this call there is
+ * none. The cost does not measure time: a body counts 1, however long it is.
  *
  * ODFILTER_OK. ODFILTER_NULL: `judge` is. ODFILTER_OTHER_KIND: it is not a judge. */
 uint32_t odfilter_set_bound(odfilter_handle *judge, uint64_t most);
@@ -364,6 +385,13 @@ uint32_t odfilter_path(const odfilter_handle *judge, odfilter_buffer path, odfil
 
 /* ---- All handles */
 
+/* Makes another handle of the same schema, type or filter, for another owner: each is freed by itself, in any order,
+ * and what they share is freed with the last one. Nothing is read or checked again.
+ *
+ * ODFILTER_OK: `made` is the handle. ODFILTER_OTHER_KIND: `handle` is a judge, which has one owner. ODFILTER_NULL: any
+ * of the two is. ODFILTER_MEMORY. */
+uint32_t odfilter_share(const odfilter_handle *handle, odfilter_handle **made);
+
 /* Frees a handle, with all that belongs to it, and writes NULL to its variable: a second call for the same variable
  * is ODFILTER_NULL.
  *
@@ -372,7 +400,14 @@ uint32_t odfilter_free(odfilter_handle **handle);
 
 /* ---- Names */
 
-/* Write the library's version; the name of a status; the name of a fault of a status.
+/* Reports whether an answer of so many bytes has all that this library writes. A caller that was built with another
+ * header than the library asks once, before any other call: odfilter_fits(sizeof(odfilter_answer)).
+ *
+ * ODFILTER_OK. ODFILTER_TOO_SMALL: a call would write beyond such an answer. */
+uint32_t odfilter_fits(uint64_t answer_size);
+
+/* Write the library's version; the name of a status; the name of a fault of a status. A status of ODFILTER_UNKNOWN_TYPE
+ * or above whose `fault` is 0 has one fault, of the number 0.
  *
  * ODFILTER_OK: `length` bytes have been written. ODFILTER_TOO_SMALL. ODFILTER_UNKNOWN_NUMBER: there is no such
  * status, or it has no such fault. ODFILTER_NULL: any of the two is. */
@@ -393,6 +428,13 @@ uint32_t odfilter_fault_name(uint32_t status, uint32_t fault, odfilter_buffer te
 uint32_t odfilter_fault_text(const odfilter_handle *type, uint32_t status, odfilter_bytes text,
                              odfilter_buffer sentence, const odfilter_answer *fault, odfilter_answer *answer);
 
+/* Writes a fault whole, as a JSON object, for programs: {"class":"typing","code":1,"name":"UnknownProperty",
+ * "span":{"start":0,"end":5},"utf16_span":{..},"sentence":..,"suggestions":[..],"names":[..],"number":..,"path":..,
+ * "line":..}, where a member without a value is null; both spans are of the filter's text, in bytes and in UTF-16 units.
+ * What the call is given and returns is as of odfilter_fault_text. Members may be added; none goes or changes. */
+uint32_t odfilter_fault_json(const odfilter_handle *type, uint32_t status, odfilter_bytes text,
+                             odfilter_buffer json, const odfilter_answer *fault, odfilter_answer *answer);
+
 /* ---- Flat calls */
 
 /* The calls above that take bytes or buffers, under names for languages that do not pass a struct by value, or do so
@@ -401,6 +443,7 @@ uint32_t odfilter_flat_read_schema(const char *document, size_t document_length,
                                    odfilter_handle **schema, odfilter_answer *answer);
 uint32_t odfilter_flat_find_type(const odfilter_handle *schema, const char *name, size_t name_length,
                                  odfilter_handle **type);
+uint32_t odfilter_flat_types(const odfilter_handle *given, char *text, size_t text_length, odfilter_answer *answer);
 uint32_t odfilter_flat_check(const odfilter_handle *type, const char *text, size_t text_length,
                              odfilter_handle **filter, odfilter_answer *answer);
 uint32_t odfilter_flat_check_query(const odfilter_handle *type, const char *query, size_t query_length,
@@ -429,6 +472,9 @@ uint32_t odfilter_flat_fault_name(uint32_t status, uint32_t fault, char *text, s
                                   odfilter_answer *answer);
 uint32_t odfilter_flat_fault_text(const odfilter_handle *type, uint32_t status, const char *text,
                                   size_t text_length, char *sentence, size_t sentence_length,
+                                  const odfilter_answer *fault, odfilter_answer *answer);
+uint32_t odfilter_flat_fault_json(const odfilter_handle *type, uint32_t status, const char *text,
+                                  size_t text_length, char *json, size_t json_length,
                                   const odfilter_answer *fault, odfilter_answer *answer);
 
 #ifdef __cplusplus

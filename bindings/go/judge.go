@@ -55,7 +55,8 @@ func AtTime(now time.Time) JudgeOption { return At(now.Format(time.RFC3339Nano))
 
 // Within bounds what the filter may cost on each row: how many times it judges the body of an any() or all(), and how
 // many items of lists and members of collections it compares after `in` within one; also, anywhere, the whole KiB of
-// each text that a comparison or a function takes, and 16 times those of each that a function makes.
+// each text that a comparison takes, 8 times those of each that a function takes, and 16 times those of each that a
+// function makes.
 func Within(bound uint64) JudgeOption {
 	return func(judge handle) error {
 		setBound(judge, bound)

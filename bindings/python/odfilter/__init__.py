@@ -46,11 +46,13 @@ from ._library import FALSE, MOMENT_NEEDED, NO_FILTER, NO_TRUTH_VALUE, NOT_A_MOM
 from ._library import SCHEMA_FAULT, SYNTAX_FAULT, TEXT_FAULT, TOO_COSTLY, TRUE, TYPE_FAULT, UNKNOWN_TYPE
 from ._library import BytesOrText, Library, _Answer, _borrowed, _borrowed_text, _buffer_of, _found
 from ._sql import Conditions, Statement, columns_in, conditions_of, form_of, postgresql_functions
+from ._types import DeclaredProperty, DeclaredType, types_in
 
 __all__ = [
-    "Closed", "Conditions", "Error", "Filter", "Judge", "Kept", "Library", "LibraryNotFound", "MomentNeeded",
-    "NoFilter", "NotAMoment", "NotUtf8", "QueryRefused", "Refused", "RowFault", "Schema", "SchemaFault",
-    "Statement", "Tally", "TooCostly", "Type", "UnknownColumn", "UnknownType", "Unsayable", "postgresql_functions",
+    "Closed", "Conditions", "DeclaredProperty", "DeclaredType", "Error", "Filter", "Judge", "Kept", "Library",
+    "LibraryNotFound", "MomentNeeded", "NoFilter", "NotAMoment", "NotUtf8", "QueryRefused", "Refused", "RowFault",
+    "Schema", "SchemaFault", "Statement", "Tally", "TooCostly", "Type", "UnknownColumn", "UnknownType", "Unsayable",
+    "postgresql_functions",
 ]
 
 # how many names each fault of a schema carries, by its number
@@ -129,6 +131,12 @@ class Schema(_Held):
         """The entity type of that name, with its namespace or the alias of that. Raises UnknownType."""
         return Type(self, name)
 
+    @property
+    def types(self) -> list[DeclaredType]:
+        """The entity and complex types, by the byte order of their names, each with its properties."""
+        owned = self._open()
+        return list(types_in(owned.library._text("types", owned.handle)))
+
 
 class Type(_Held):
     """An entity type of a schema, which it keeps: `Schema.type` makes it."""
@@ -138,6 +146,13 @@ class Type(_Held):
         self._owned = _Owned(owner.library, "find_type", (owner.handle, _borrowed_text(name, "a type's name")))
         if self._owned.status == UNKNOWN_TYPE:
             raise owner.library._worded(UnknownType(name), UNKNOWN_TYPE, _Answer(), name)
+
+    @property
+    def properties(self) -> tuple[DeclaredProperty, ...]:
+        """The properties, those of the base type first."""
+        owned = self._open()
+        (declared,) = types_in(owned.library._text("types", owned.handle))
+        return declared.properties
 
     def check(self, text: str) -> Filter:
         """The filter of that text. Raises Refused."""
@@ -252,7 +267,8 @@ class Filter(_Held):
 
         `bound` is how much the filter may cost on a row: how many times it judges the body of an any() or all(), and
         how many items of lists and members of collections it compares after `in` within one; also, anywhere, the whole
-        KiB of each text that a comparison or a function takes, and 16 times those of each that a function makes.
+        KiB of each text that a comparison takes, 8 times those of each that a function takes, and 16 times those of
+        each that a function makes.
         """
         return Judge(self, now, bound)
 

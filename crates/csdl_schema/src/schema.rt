@@ -1,4 +1,4 @@
-ghost use Rattle.std.specs.Prelude.{ℤ, ◌≡◌, ◌<◌, ◌↔◌, drop, length, map, slice_get, Some, IsTrue, IfSome, option_map};
+ghost use Rattle.std.specs.Prelude.{ℤ, ◌≡◌, ◌<◌, ◌↔◌, drop, length, map, slice_get, Some, IsTrue, IfSome, MatchOption, option_map};
 ghost use Rattle.csdl_schema.specs.SchemaModel.{enumeration_at, enumeration_named, index_named, is_enumeration, is_structured, name_of_kind, properties_at, slot_named, AreSlotsInOrder, HasDistinctNames, HoldsType, IsEntityAt, IsEnumerationByName, IsOneByName};
 ghost use Rattle.edm_enumerations.specs.EnumerationModel.{member_of};
 ghost use Rattle.csdl_schema.specs.PropertyView.{AreFirstOf, IsReadAs};
@@ -69,6 +69,22 @@ impl Schema {
             }
             None => None,
         }
+    }
+
+    /// Returns how many types the document declares, enumerations and type definitions among them.
+    pub fn type_count(&self) -> usize
+        ensures { result ≡ length self.now.types }
+    {
+        self.types.len()
+    }
+
+    /// Returns the entity or complex type at an index below that count; `None` where a type of another kind stands
+    /// there, and after the last one.
+    pub fn type_at(&self, index: usize) -> Option<TypeId>
+        ensures { MatchOption result (¬ HoldsType self.now index) (λ id. (id ≡ index) × HoldsType self.now index) }
+    {
+        let id = TypeId::from_index(index);
+        if self.holds(id) { Some(id) } else { None }
     }
 
     /// Returns whether this schema has an entity or complex type at that index.

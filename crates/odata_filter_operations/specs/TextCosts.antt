@@ -36,9 +36,10 @@ made_length ToLower (text s ∷ []) = length s
 made_length ToUpper (text s ∷ []) = length s
 made_length function values = 0
 
--- a function takes the texts among its values, and what it makes takes memory, so that counts sixteen for each KiB
+-- a function walks the texts among its values, where a comparison takes both at once, so each KiB of them counts eight;
+-- what it makes takes memory too, and each KiB of that counts sixteen
 abbrev pub call_cost : Function → List Val → ℕ
-call_cost function values = texts_cost values + 16 * (made_length function values / 1024)
+call_cost function values = 8 * texts_cost values + 16 * (made_length function values / 1024)
 
 -- what the function of that name costs on values
 pub record CallCosts (asked : List ℕ) (values : List Val) (n : ℕ) : Type 0 where

@@ -65,9 +65,9 @@ pub fn cost_of_one(function: Function, first: &Datum<'_>) -> usize
         Datum::Text(text) => {
             let taken = kib(text.as_str());
             match function {
-                Function::ToLower => taken + 16 * taken,
-                Function::ToUpper => taken + 16 * taken,
-                _ => taken,
+                Function::ToLower => 8 * taken + 16 * taken,
+                Function::ToUpper => 8 * taken + 16 * taken,
+                _ => 8 * taken,
             }
         }
         _ => 0,
@@ -79,7 +79,7 @@ pub fn cost_of_one(function: Function, first: &Datum<'_>) -> usize
 pub fn cost_of_two(function: Function, first: &Datum<'_>, second: &Datum<'_>) -> usize
     ensures { (r : Reading) → result ≡ call_cost function (datum_val r first.now ∷ datum_val r second.now ∷ []) }
 {
-    let taken = text_cost(first) + text_cost(second);
+    let taken = 8 * (text_cost(first) + text_cost(second));
     match first {
         Datum::Text(left) => match second {
             Datum::Text(right) => match function {
@@ -99,5 +99,5 @@ pub fn cost_of_three(first: &Datum<'_>, second: &Datum<'_>, third: &Datum<'_>) -
     ensures { (function : Function) (r : Reading) → result
         ≡ call_cost function (datum_val r first.now ∷ datum_val r second.now ∷ datum_val r third.now ∷ []) }
 {
-    text_cost(first) + (text_cost(second) + text_cost(third))
+    8 * (text_cost(first) + (text_cost(second) + text_cost(third)))
 }

@@ -53,7 +53,8 @@ impl Judge {
 
     /// Bounds what the filter may cost on each row: how many times it judges the body of an any() or all(), and how
     /// many items of lists and members of collections it compares after `in` within one; also, anywhere, the whole KiB
-    /// of each text that a comparison or a function takes, and 16 times those of each that a function makes.
+    /// of each text that a comparison takes, 8 times those of each that a function takes, and 16 times those of each
+    /// that a function makes.
     pub fn within(mut self, bound: u64) -> Judge {
         // SAFETY: the handle is a judge, of which this call has no other status than OK.
         unsafe { c::odfilter_set_bound(self.handle.at_mut(), bound) };

@@ -57,7 +57,7 @@ operator_none (BinaryOperator.Arithmetic arithmetic) l r none also = refl
 whole_none : (n : ℕ) → n < 1024 → n / 1024 ≡ 0
 whole_none n below = omega (arith, below)
 
-made_none : (taken whole : ℕ) → taken ≡ 0 → whole ≡ 0 → taken + 16 * whole ≡ 0
+made_none : (taken whole : ℕ) → taken ≡ 0 → whole ≡ 0 → 8 * taken + 16 * whole ≡ 0
 made_none taken whole first second = omega (arith, first, second)
 
 -- members that are compared outside of bodies

@@ -32,8 +32,8 @@ public final class Judge implements AutoCloseable {
     /**
      * Bounds what the filter may cost on each row: how many times it judges the body of an any() or all(), and how
      * many items of lists and members of collections it compares after `in` within one; also, anywhere, the whole KiB
-     * of each text that a comparison or a function takes, and 16 times those of each that a function makes. A negative
-     * bound is refused.
+     * of each text that a comparison takes, 8 times those of each that a function takes, and 16 times those of each that
+     * a function makes. A negative bound is refused.
      */
     public synchronized Judge within(long bound) {
         if (bound < 0) {
