@@ -139,12 +139,24 @@ namespace Odfilter
     {
         private const string Library = "odfilter";
 
+        /// <summary>Refuses a library that writes longer answers than these classes read.</summary>
+        static unsafe Native()
+        {
+            if (odfilter_fits((ulong)sizeof(Answer)) != Status.Ok)
+            {
+                throw new DllNotFoundException("The library is newer than these classes: its answers are longer.");
+            }
+        }
+
         [DllImport(Library)]
         internal static extern Status odfilter_read_schema(
             Bytes document, Bytes names, out Handle schema, out Answer answer);
 
         [DllImport(Library)]
         internal static extern Status odfilter_find_type(Handle schema, Bytes name, out Handle type);
+
+        [DllImport(Library)]
+        internal static extern Status odfilter_types(Handle given, Bytes text, out Answer answer);
 
         [DllImport(Library)]
         internal static extern Status odfilter_check(Handle type, Bytes text, out Handle filter, out Answer answer);
@@ -204,7 +216,13 @@ namespace Odfilter
         internal static extern Status odfilter_path(Handle judge, Bytes path, out Answer answer);
 
         [DllImport(Library)]
+        internal static extern Status odfilter_share(Handle handle, out Handle made);
+
+        [DllImport(Library)]
         internal static extern Status odfilter_free(ref IntPtr handle);
+
+        [DllImport(Library)]
+        internal static extern Status odfilter_fits(ulong answerSize);
 
         [DllImport(Library)]
         internal static extern Status odfilter_version(Bytes text, out Answer answer);
@@ -222,5 +240,13 @@ namespace Odfilter
         [DllImport(Library)]
         internal static extern Status odfilter_fault_text(
             IntPtr type, uint status, Bytes text, Bytes sentence, ref Answer fault, out Answer answer);
+
+        [DllImport(Library)]
+        internal static extern Status odfilter_fault_json(
+            Handle type, uint status, Bytes text, Bytes json, ref Answer fault, out Answer answer);
+
+        [DllImport(Library)]
+        internal static extern Status odfilter_fault_json(
+            IntPtr type, uint status, Bytes text, Bytes json, ref Answer fault, out Answer answer);
     }
 }

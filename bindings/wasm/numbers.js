@@ -21,10 +21,11 @@ const odfilterNumbers = {
   // what each call is given: h a handle or null, b bytes, w a buffer, m the variable of a handle, a an answer, f an
   // answer that is read, n a number of 4 bytes, u one of 8
   CALLS: {
-    read_schema: 'bwma', find_type: 'hbm', check: 'hbma', check_query: 'hbma', check_url: 'hbwma', canonical: 'hwa',
-    explain: 'hwa', needs_moment: 'ha', node_count: 'ha', lambda_depth: 'ha', property_paths: 'hwa', sql: 'hnbwa',
-    new_judge: 'm', new_judge_of: 'hm', set_moment: 'hb', set_bound: 'hu', judge: 'hhba', judge_next: 'hba',
-    filter_lines: 'hhbwa', path: 'hwa', version: 'wa', status_name: 'nwa', fault_name: 'nnwa', fault_text: 'hnbwfa',
+    read_schema: 'bwma', find_type: 'hbm', types: 'hwa', check: 'hbma', check_query: 'hbma', check_url: 'hbwma',
+    canonical: 'hwa', explain: 'hwa', needs_moment: 'ha', node_count: 'ha', lambda_depth: 'ha', property_paths: 'hwa',
+    sql: 'hnbwa', new_judge: 'm', new_judge_of: 'hm', set_moment: 'hb', set_bound: 'hu', judge: 'hhba',
+    judge_next: 'hba', filter_lines: 'hhbwa', path: 'hwa', share: 'hm', fits: 'u', version: 'wa', status_name: 'nwa',
+    fault_name: 'nnwa', fault_text: 'hnbwfa', fault_json: 'hnbwfa',
   },
 };
 if (typeof module !== 'undefined') module.exports = odfilterNumbers;

@@ -66,10 +66,15 @@ static odfilter_handle *filters(const odfilter_handle *type, const char *text)
     of_flat = same_made("check", wanted, got, &made, of_flat);
     if (wanted != ODFILTER_OK) {
         odfilter_answer fault = plain;
+        uint32_t status = wanted;
         buffer = fresh(SIZE);
-        wanted = odfilter_fault_text(type, wanted, bytes, buffer, &fault, &plain);
-        got = odfilter_flat_fault_text(type, got, bytes.at, bytes.length, second, SIZE, &fault, &flat);
+        wanted = odfilter_fault_text(type, status, bytes, buffer, &fault, &plain);
+        got = odfilter_flat_fault_text(type, status, bytes.at, bytes.length, second, SIZE, &fault, &flat);
         same("fault_text", wanted, got);
+        buffer = fresh(SIZE);
+        wanted = odfilter_fault_json(type, status, bytes, buffer, &fault, &plain);
+        got = odfilter_flat_fault_json(type, status, bytes.at, bytes.length, second, SIZE, &fault, &flat);
+        same("fault_json", wanted, got);
     }
     drop(bytes);
     return of_flat;
@@ -181,6 +186,8 @@ int main(void)
     uint32_t status;
     check("no schema", !schemas("{}"));
     check("no type", !types(schema, "Mini.Thing"));
+    texts("types of a schema", schema, odfilter_types, odfilter_flat_types);
+    texts("a type", type, odfilter_types, odfilter_flat_types);
     of_filter(filters(type, FILTER));
     of_filter(filters(type, "contains(Name,'a') or Part/Size lt 6"));
     check("a fault of syntax", !filters(type, "Active and"));
@@ -190,6 +197,9 @@ int main(void)
     queries(type, "$top=5");
     for (status = 0; status < 30; status++)
         names(status);
+    check("an answer of this header fits", odfilter_fits(sizeof(odfilter_answer)) == ODFILTER_OK);
+    check("a larger one fits", odfilter_fits(2 * sizeof(odfilter_answer)) == ODFILTER_OK);
+    check("a smaller one does not", odfilter_fits(sizeof(odfilter_answer) - 1) == ODFILTER_TOO_SMALL);
     odfilter_free(&type);
     odfilter_free(&schema);
     return end();

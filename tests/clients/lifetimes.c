@@ -86,6 +86,27 @@ static void one_judge(void)
     odfilter_free(&second);
 }
 
+/* each handle's share outlives the handle, and the other way round */
+static void shared(int frees_share_first)
+{
+    odfilter_handle *handles[KINDS] = {NULL}, *shares[KINDS] = {NULL}, *judge = new_judge(), *none = judge;
+    int kind;
+    handles[SCHEMA] = schema_of(DOCUMENT);
+    handles[TYPE] = type_of(handles[SCHEMA], "Mini.Item");
+    handles[FILTER_KIND] = filter_of(handles[TYPE], FILTER);
+    for (kind = SCHEMA; kind <= FILTER_KIND; kind++)
+        check("a share is made", odfilter_share(handles[kind], &shares[kind]) == ODFILTER_OK && shares[kind]);
+    check("a judge has one owner", odfilter_share(judge, &none) == ODFILTER_OTHER_KIND && !none);
+    for (kind = SCHEMA; kind <= FILTER_KIND; kind++)
+        odfilter_free(frees_share_first ? &shares[kind] : &handles[kind]);
+    use(frees_share_first ? handles : shares);
+    check("a row is kept by a filter that was shared",
+          is_kept(frees_share_first ? handles[FILTER_KIND] : shares[FILTER_KIND], judge, ROW));
+    for (kind = SCHEMA; kind <= FILTER_KIND; kind++)
+        odfilter_free(frees_share_first ? &handles[kind] : &shares[kind]);
+    odfilter_free(&judge);
+}
+
 /* whether it is an order of all kinds: each stands in it */
 static int is_order(const int *order)
 {
@@ -109,5 +130,7 @@ int main(void)
             free_in_order(order);
     }
     one_judge();
+    shared(0);
+    shared(1);
     return end();
 }

@@ -96,6 +96,20 @@ static const char *const fault_names[][14] = {
         },
 };
 
+/* the statuses with one fault, of the number 0 */
+static const char *const lone_names[] = {
+    [ODFILTER_UNKNOWN_TYPE] = "UnknownType",
+    [ODFILTER_NO_FILTER] = "NoFilter",
+    [ODFILTER_MOMENT_NEEDED] = "MomentNeeded",
+    [ODFILTER_NOT_A_MOMENT] = "NotAMoment",
+    [ODFILTER_JSON_FAULT] = "Json",
+    [ODFILTER_LINE_TOO_LONG] = "LineTooLong",
+    [ODFILTER_TOO_COSTLY] = "TooCostly",
+    [ODFILTER_UNSAYABLE] = "Unsayable",
+    [ODFILTER_TOO_DEEP] = "TooDeep",
+    [ODFILTER_UNKNOWN_COLUMN] = "UnknownColumn",
+};
+
 #define STATUSES (sizeof status_names / sizeof *status_names)
 #define FAULTS (sizeof *fault_names / sizeof **fault_names)
 
@@ -118,18 +132,28 @@ static void status_at(uint32_t status)
     check("the name of a status", is_named(returned, at, answer, status < STATUSES ? status_names[status] : NULL));
 }
 
+static const char *name_of_fault(uint32_t status, uint32_t fault)
+{
+    if (!fault)
+        return status < sizeof lone_names / sizeof *lone_names ? lone_names[status] : NULL;
+    return status < sizeof fault_names / sizeof *fault_names && fault < FAULTS ? fault_names[status][fault] : NULL;
+}
+
 static void fault_at(uint32_t status, uint32_t fault)
 {
     char at[32];
     odfilter_buffer room = {at, sizeof at};
     odfilter_answer answer = unwritten();
     uint32_t returned = odfilter_fault_name(status, fault, room, &answer);
-    int is_known = status < sizeof fault_names / sizeof *fault_names && fault < FAULTS;
-    check("the name of a fault", is_named(returned, at, answer, is_known ? fault_names[status][fault] : NULL));
+    check("the name of a fault", is_named(returned, at, answer, name_of_fault(status, fault)));
 }
 
-/* a sentence about a fault, with a type and without, and in a buffer that is a byte too small */
-static void sentence_at(const odfilter_handle *type, uint32_t status, uint32_t fault)
+/* what writes about a fault: a sentence, or an object with all of it */
+typedef uint32_t fault_call(const odfilter_handle *, uint32_t, odfilter_bytes, odfilter_buffer, const odfilter_answer *,
+                            odfilter_answer *);
+
+/* a text about a fault, with a type and without, and in a buffer that is a byte too small */
+static void said_at(fault_call *call, const odfilter_handle *type, uint32_t status, uint32_t fault)
 {
     char at[2048];
     odfilter_buffer room = {at, sizeof at};
@@ -141,14 +165,14 @@ static void sentence_at(const odfilter_handle *type, uint32_t status, uint32_t f
     about.stop = 3;
     is_known |= !fault && (status == ODFILTER_JSON_FAULT || status == ODFILTER_LINE_TOO_LONG ||
                            (status >= ODFILTER_UNKNOWN_TYPE && status <= ODFILTER_NOT_A_MOMENT));
-    returned = odfilter_fault_text(type, status, text, room, &about, &answer);
+    returned = call(type, status, text, room, &about, &answer);
     check("a sentence", returned == (is_known ? ODFILTER_OK : ODFILTER_UNKNOWN_NUMBER));
     wanted.length = answer.length;
     check("a sentence's answer", is_answer(answer, is_known ? wanted : none));
     check("a sentence ends", !is_known || (answer.length && answer.length <= sizeof at));
     if (is_known) {
         room.length = answer.length - 1;
-        returned = odfilter_fault_text(type, status, text, room, &about, &answer);
+        returned = call(type, status, text, room, &about, &answer);
         check("a sentence in a small buffer", returned == ODFILTER_TOO_SMALL && is_answer(answer, wanted));
     }
     drop(text);
@@ -170,6 +194,62 @@ static void sentence_of_a_filter(const odfilter_handle *type)
     drop(text);
 }
 
+/* a fault as an object is that text, of which the buffer needs no zero after it */
+static void object_is(const char *name, const odfilter_handle *type, uint32_t status, const char *about,
+                      const odfilter_answer *fault, const char *wanted)
+{
+    char at[2048];
+    odfilter_buffer room = {at, sizeof at};
+    odfilter_answer answer = unwritten(), reported = {0};
+    odfilter_bytes text = bytes_of(about);
+    reported.length = strlen(wanted);
+    check(name, odfilter_fault_json(type, status, text, room, fault, &answer) == ODFILTER_OK);
+    check(name, is_answer(answer, reported) && !memcmp(at, wanted, strlen(wanted)));
+    drop(text);
+}
+
+#define REST "\"names\":[],\"number\":null,\"path\":null,\"file\":null,\"line\":null,\"column\":null}"
+#define OF_FOX "Name eq '\xf0\x9f\xa6\x8a' and name eq 'b'"
+
+/* both spans of a refused filter, the sentence and what to write instead; without a type neither of these two */
+static void object_of_a_filter(const odfilter_handle *type)
+{
+    odfilter_answer refusal;
+    odfilter_handle *filter = NULL;
+    odfilter_bytes text = bytes_of(OF_FOX);
+    check("a refused filter", odfilter_check(type, text, &filter, &refusal) == ODFILTER_TYPE_FAULT);
+    object_is("its object", type, ODFILTER_TYPE_FAULT, OF_FOX, &refusal,
+              "{\"class\":\"typing\",\"code\":1,\"name\":\"UnknownProperty\",\"text\":\"" OF_FOX "\","
+              "\"span\":{\"start\":19,\"end\":23},\"utf16_span\":{\"start\":17,\"end\":21},"
+              "\"sentence\":\"Type 'Mini.Item' has no property 'name'. Did you mean 'Name'?\","
+              "\"suggestions\":[{\"start\":19,\"end\":23,\"text\":\"Name\"}]," REST);
+    object_is("its object without a type", NULL, ODFILTER_TYPE_FAULT, OF_FOX, &refusal,
+              "{\"class\":\"typing\",\"code\":1,\"name\":\"UnknownProperty\",\"text\":\"" OF_FOX "\","
+              "\"span\":{\"start\":19,\"end\":23},\"utf16_span\":{\"start\":17,\"end\":21},"
+              "\"sentence\":\"There is no property 'name'.\",\"suggestions\":[]," REST);
+    drop(text);
+}
+
+/* of lines the number and the path */
+static void object_of_a_line(const odfilter_handle *type)
+{
+    static const char lines[] = ROW "\n" BAD_ROW "\n";
+    char kept[sizeof lines];
+    odfilter_buffer room = {kept, sizeof kept};
+    odfilter_handle *filter = filter_of(type, FILTER), *judge = NULL;
+    odfilter_bytes rows = bytes_of(lines);
+    odfilter_answer fault;
+    check("a judge", odfilter_new_judge(&judge) == ODFILTER_OK);
+    check("a line at fault", odfilter_filter_lines(filter, judge, rows, room, &fault) == ODFILTER_ROW_FAULT);
+    object_is("its object", type, ODFILTER_ROW_FAULT, "Part/Size", &fault,
+              "{\"class\":\"row\",\"code\":5,\"name\":\"OutOfRange\",\"text\":null,\"span\":null,\"utf16_span\":null,"
+              "\"sentence\":\"The value of 'Part/Size' is outside the range of its type.\",\"suggestions\":[],"
+              "\"names\":[],\"number\":null,\"path\":\"Part/Size\",\"file\":null,\"line\":2,\"column\":null}");
+    drop(rows);
+    odfilter_free(&judge);
+    odfilter_free(&filter);
+}
+
 static void texts_that_are_no_utf8(const odfilter_handle *type)
 {
     char at[2048];
@@ -180,8 +260,13 @@ static void texts_that_are_no_utf8(const odfilter_handle *type)
     check("a text that is no UTF-8",
           odfilter_fault_text(type, ODFILTER_SYNTAX_FAULT, text, room, &about, &answer) == ODFILTER_NOT_UTF8);
     check("of it nothing is reported", is_answer(answer, none));
+    check("an object of a text that is no UTF-8",
+          odfilter_fault_json(type, ODFILTER_SYNTAX_FAULT, text, room, &about, &answer) == ODFILTER_NOT_UTF8);
+    check("of it nothing is reported", is_answer(answer, none));
     check("a query that is no UTF-8",
           odfilter_fault_text(type, ODFILTER_QUERY_FAULT, text, room, &about, &answer) == ODFILTER_OK);
+    check("an object of a query that is no UTF-8",
+          odfilter_fault_json(type, ODFILTER_QUERY_FAULT, text, room, &about, &answer) == ODFILTER_OK);
     drop(text);
 }
 
@@ -195,11 +280,16 @@ int main(void)
         status_at(status);
         for (fault = 0; fault < 40; fault++) {
             fault_at(status, fault);
-            sentence_at(type, status, fault);
-            sentence_at(NULL, status, fault);
+            said_at(odfilter_fault_text, type, status, fault);
+            said_at(odfilter_fault_text, NULL, status, fault);
+            said_at(odfilter_fault_json, type, status, fault);
+            said_at(odfilter_fault_json, NULL, status, fault);
         }
-        for (number = 0; number < 4; number++)
-            fault_at(status, far[number] + 1), sentence_at(type, status, far[number] + 1);
+        for (number = 0; number < 4; number++) {
+            fault_at(status, far[number] + 1);
+            said_at(odfilter_fault_text, type, status, far[number] + 1);
+            said_at(odfilter_fault_json, type, status, far[number] + 1);
+        }
     }
     for (number = 0; number < 4; number++) {
         status_at(far[number]);
@@ -207,6 +297,8 @@ int main(void)
         fault_at(far[number] + ODFILTER_EVAL_FAULT, ODFILTER_EVAL_OVERFLOW);
     }
     sentence_of_a_filter(type);
+    object_of_a_filter(type);
+    object_of_a_line(type);
     texts_that_are_no_utf8(type);
     odfilter_free(&type);
     odfilter_free(&schema);

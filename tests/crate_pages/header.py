@@ -11,7 +11,8 @@ from .sources import text_of
 
 __all__ = ["DATA", "checks", "page"]
 HEADER, DATA = "include/odfilter.h", "include/odfilter.json"
-EXPORTS = [f"crates/odfilter_c/src/{it}.rt" for it in ("c_types", "exports", "filter_exports", "judge_exports")]
+SOURCES = ("c_types", "exports", "fault_exports", "filter_exports", "judge_exports", "type_exports")
+EXPORTS = [f"crates/odfilter_c/src/{it}.rt" for it in SOURCES]
 SIZES = {"uint32_t": 4, "uint64_t": 8, "size_t": 8, "const char *": 8, "char *": 8}
 # what stands for a struct in a flat call: the type of its address
 FLAT = {"odfilter_bytes": "const char *", "odfilter_buffer": "char *"}
@@ -111,7 +112,7 @@ def data():
     header = text_of(HEADER)
     by_title = parts(header)
     statuses = numbered(by_title["Statuses"])
-    version = re.search(r'VERSION: &str = "([^"]+)"', text_of("crates/handle_calls/src/name_calls.rt"))[1]
+    version = re.search(r'VERSION: &str = "([^"]+)"', text_of("crates/report_calls/src/name_calls.rt"))[1]
     library = re.search(r"soname,(libodfilter\.so\.\d+)", text_of("bindings/c/build"))[1]
     return {
         "about": "The calls of include/odfilter.h as data; docs/make writes this file.",
@@ -159,7 +160,7 @@ def flattened(call):
 
 
 def names_of_statuses():
-    text = text_of("crates/handle_calls/src/name_calls.rt")
+    text = text_of("crates/report_calls/src/name_calls.rt")
     listed = re.findall(r'^        (\d+) => Ok\("([A-Z_0-9]+)"\)', text, re.MULTILINE)
     return {int(number): name for number, name in listed}
 

@@ -7,7 +7,7 @@ import re
 import subprocess
 
 TOP = os.path.dirname(os.path.dirname(os.path.dirname(os.path.realpath(__file__))))
-FUNCTION = re.compile(r'( *)(pub )?(?:const )?(?:unsafe extern "C" )?fn (\w+)')
+FUNCTION = re.compile(r'( *)(pub )?(?:const )?(?:(?:unsafe )?extern "C" )?fn (\w+)')
 CLAUSE = re.compile(r"\s+(requires|ensures|ghost)\*?\s+(?:(\w+):?\s+)?\{")
 TYPE = re.compile(r"pub (struct|enum|trait|const|type) (\w+)")
 

@@ -3,4 +3,3 @@ mod Types
 mod FilterSteps
 mod OwnedSteps
 mod RowSteps
-mod SqlSteps

@@ -12,3 +12,7 @@ IsType handle = ⊥
 abbrev pub IsFilterKind : Handle → Type 0
 IsFilterKind (Handle.Filter held) = Unit {0}
 IsFilterKind handle = ⊥
+
+abbrev pub IsJudge : Handle → Type 0
+IsJudge (Handle.Judge held) = Unit {0}
+IsJudge handle = ⊥

@@ -1,13 +1,11 @@
 -- What each call reports of what it borrows.
-use Rattle.std.specs.Prelude.{◌≡◌, ◌++◌, ◌⊎◌, ℕ, List, codes, length, Option, None, Some, Result, Ok, Err, MatchResult}
+use Rattle.std.specs.Prelude.{◌≡◌, ◌++◌, ◌⊎◌, ℕ, List, length, Option, None, Some, Result, Ok, Err, MatchResult}
 use Rattle.csdl_declarations.specs.declared.schema_fault.SchemaFault.{SchemaFault}
 use Rattle.handle_calls.specs.Answers.{fault_answer, fault_status}
 use Rattle.handle_calls.specs.FilterCalls.{IsCanonicalOf, IsExplanationOf, IsFilterIn, IsFilterOfQuery, IsNoFilter, IsNoQueryFilter, IsNoText}
-use Rattle.handle_calls.specs.Names.{fault_named, status_named}
 use Rattle.handle_calls.specs.Outcomes.{Gives, Makes}
 use Rattle.handle_calls.specs.SchemaCalls.{IsNoSchema, IsNoType, IsSchemaOf, IsTypeOf, first_name, second_name}
-use Rattle.handle_calls.specs.SqlCalls.{IsNoSql, IsSqlOf}
-use Rattle.handle_calls.specs.Texts.{IsTooSmall, IsWritten, Reports, Writes}
+use Rattle.handle_calls.specs.Texts.{IsTooSmall, IsWritten, Reports}
 use Rattle.handle_calls.specs.declared.answer.Answer.{Answer}
 use Rattle.handle_calls.specs.declared.call_fault.Fault.{Fault}
 use Rattle.handle_calls.specs.declared.handle.Handle.{Handle}
@@ -51,10 +49,6 @@ ReportsCanonical filter = Reports (IsCanonicalOf filter) (IsNoText filter)
 abbrev pub ReportsNodes : Handle → List ℕ → List ℕ → Answer → ℕ → Type 0
 ReportsNodes filter = Reports (IsExplanationOf filter) (IsNoText filter)
 
--- the conditions of SQL, by a form and lines about the table
-abbrev pub ReportsSql : Handle → ℕ → List ℕ → List ℕ → List ℕ → Answer → ℕ → Type 0
-ReportsSql filter form how = Reports (IsSqlOf filter form how) (IsNoSql filter form how)
-
 -- freeing: what was held is gone, and no handle is there any more
 abbrev pub free_status : Option Handle → ℕ
 free_status (Some handle) = 0
@@ -62,13 +56,3 @@ free_status None = 1
 
 abbrev pub Frees : Owned → Owned → ℕ → Type 0
 Frees old new status = (new.value ≡ None) × (status ≡ free_status old.value)
-
--- the version, and names of numbers
-abbrev pub ReportsVersion : List ℕ → List ℕ → Answer → ℕ → Type 0
-ReportsVersion = Writes (Ok (codes "0.1.0"))
-
-abbrev pub ReportsStatus : ℕ → List ℕ → List ℕ → Answer → ℕ → Type 0
-ReportsStatus status = Writes (status_named status)
-
-abbrev pub ReportsFault : ℕ → ℕ → List ℕ → List ℕ → Answer → ℕ → Type 0
-ReportsFault status fault = Writes (fault_named status fault)

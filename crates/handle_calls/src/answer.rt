@@ -23,7 +23,7 @@ pub struct Answer {
 
 impl Answer {
     /// An answer that reports nothing.
-    pub(crate) fn empty() -> Answer
+    pub fn empty() -> Answer
         ensures { result ≡ empty_answer }
     {
         Answer {

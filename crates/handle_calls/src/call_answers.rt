@@ -8,8 +8,8 @@ use crate::handle::Handle;
 use crate::owned::Owned;
 use std::alloc::Global;
 
-/// The status of a call that failed, with its answer.
-pub(crate) fn report_fault(fault: &Fault, answer: &mut Answer) -> u32
+/// Returns the status of a call that failed, and reports the fault in its answer.
+pub fn report_fault(fault: &Fault, answer: &mut Answer) -> u32
     ensures { IsReported fault.now answer.new result }
 {
     *answer = fault.answer();
@@ -33,8 +33,8 @@ fn give_handle(alloc: Global, handle: Handle, made: &mut Owned, answer: &mut Ans
     }
 }
 
-/// Hands out the handle that a call made, or none.
-pub(crate) fn give(
+/// Hands out the handle that a call made, or none, and returns the status.
+pub fn give(
     alloc: Global,
     outcome: Result<Handle, Fault>,
     made: &mut Owned,

@@ -14,7 +14,7 @@ use odata_typing::Refusal;
 
 /// Why a call did nothing. The faults of the crates below are none when out of memory, which is `Memory` here.
 #[derive(Drop)]
-pub(crate) enum Fault {
+pub enum Fault {
     OtherKind,
     NotUtf8,
     Memory,

@@ -32,7 +32,7 @@ pub(crate) fn write_both(buffer: &mut [u8], first: &[u8], second: &[u8]) -> bool
 }
 
 /// Writes a text, and reports how long it is, or would be.
-pub(crate) fn report_bytes(text: &[u8], buffer: &mut [u8], answer: &mut Answer) -> u32
+pub fn report_bytes(text: &[u8], buffer: &mut [u8], answer: &mut Answer) -> u32
     ensures { Writes (Ok text.now) buffer.old buffer.new answer.new result }
 {
     if write_text(buffer, text) {

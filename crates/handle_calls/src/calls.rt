@@ -1,9 +1,8 @@
 //! The calls, over what is borrowed: each returns its status, and reports the rest in its answer.
 ghost use Rattle.std.specs.Prelude.{Err};
 ghost use Rattle.handle_calls.specs.Reports.{ChecksQuery, ChecksText, FindsType, Frees, GivesSchema, ReadsSchema};
-ghost use Rattle.handle_calls.specs.Reports.{ReportsCanonical, ReportsFault, ReportsNodes, ReportsSql, ReportsStatus};
-ghost use Rattle.handle_calls.specs.Reports.{ReportsVersion};
-ghost use Rattle.handle_calls.specs.Sentences.{ReportsSentence, ReportsSentenceFor};
+ghost use Rattle.handle_calls.specs.Reports.{ReportsCanonical, ReportsNodes};
+ghost use Rattle.handle_calls.specs.Shares.{Shares};
 ghost use Rattle.handle_calls.specs.UrlCalls.{ChecksUrl};
 ghost use Rattle.handle_calls.specs.Costs.{ReportsLambdaDepth, ReportsNodeCount, ReportsPaths};
 ghost use Rattle.handle_calls.specs.RowReports.{FiltersLines, JudgesNext, JudgesOne, MakesJudge, MakesJudgeOf};
@@ -18,11 +17,9 @@ use crate::filter_calls::{canonical_of, explanation_of, filter_for, filter_in_qu
 use crate::handle::Handle;
 use crate::judge_calls::{judge_of, judge_with, last_path, put_moment, report_next, report_row};
 use crate::line_calls::report_rows;
-use crate::name_calls::{VERSION, name_of_fault, name_of_status};
 use crate::owned::Owned;
 use crate::schema_calls::{report_names, schema_of, type_of};
-use crate::sentence_calls::{sentence_for, sentence_of};
-use crate::sql_calls::sql_of;
+use crate::share_calls::share_of;
 use crate::url_calls::{found_for, report_found};
 use std::alloc::Global;
 
@@ -112,41 +109,6 @@ pub fn check_url<'a>(
     }
 }
 
-/// Writes a sentence about a fault of a filter, query or row of a type.
-pub fn fault_text<'a>(
-    alloc: Global,
-    given: &'a Handle,
-    status: u32,
-    text: &'a [u8],
-    sentence: &'a mut [u8],
-    fault: &'a Answer,
-    answer: &'a mut Answer,
-) -> u32
-    ensures { ReportsSentenceFor given.now status text.now sentence.old sentence.new fault.now answer.new result }
-{
-    match sentence_for(alloc, given, status, fault, text) {
-        Ok(words) => report_bytes(words.as_bytes(), sentence, answer),
-        Err(fault) => report_fault(&fault, answer),
-    }
-}
-
-/// Writes a sentence about a fault, without a type.
-pub fn fault_text_alone<'a>(
-    alloc: Global,
-    status: u32,
-    text: &'a [u8],
-    sentence: &'a mut [u8],
-    fault: &'a Answer,
-    answer: &'a mut Answer,
-) -> u32
-    ensures { ReportsSentence status text.now sentence.old sentence.new fault.now answer.new result }
-{
-    match sentence_of(alloc, None, status, fault, text) {
-        Ok(words) => report_bytes(words.as_bytes(), sentence, answer),
-        Err(fault) => report_fault(&fault, answer),
-    }
-}
-
 /// Writes the canonical text of a filter.
 pub fn canonical<'a>(
     alloc: Global,
@@ -173,23 +135,6 @@ pub fn explain<'a>(
 {
     match explanation_of(alloc, filter) {
         Ok(nodes) => report_bytes(nodes.as_bytes(), text, answer),
-        Err(fault) => report_fault(&fault, answer),
-    }
-}
-
-/// Writes the conditions of a filter in SQL, as JSON.
-pub fn sql<'a>(
-    alloc: Global,
-    filter: &'a Handle,
-    form: u32,
-    how: &'a [u8],
-    text: &'a mut [u8],
-    answer: &'a mut Answer,
-) -> u32
-    ensures { ReportsSql filter.now form how.now text.old text.new answer.new result }
-{
-    match sql_of(alloc, filter, form, how) {
-        Ok(conditions) => report_bytes(conditions.as_bytes(), text, answer),
         Err(fault) => report_fault(&fault, answer),
     }
 }
@@ -329,6 +274,14 @@ pub fn path<'a>(judge: &'a Handle, path: &'a mut [u8], answer: &'a mut Answer) -
     }
 }
 
+/// Makes another handle of the same schema, type or filter.
+pub fn share<'a>(alloc: Global, handle: &'a Handle, made: &'a mut Owned) -> u32
+    ensures { Shares handle.now made.new result }
+{
+    let mut answer = Answer::empty();
+    give(alloc, share_of(handle), made, &mut answer)
+}
+
 /// Frees a handle.
 pub fn free<'a>(alloc: Global, handle: &'a mut Owned) -> u32
     ensures { Frees handle.old handle.new result }
@@ -339,32 +292,5 @@ pub fn free<'a>(alloc: Global, handle: &'a mut Owned) -> u32
             0
         }
         None => 1,
-    }
-}
-
-/// Writes the version.
-pub fn version<'a>(text: &'a mut [u8], answer: &'a mut Answer) -> u32
-    ensures { ReportsVersion text.old text.new answer.new result }
-{
-    report_bytes(VERSION.as_bytes(), text, answer)
-}
-
-/// Writes the name of a status.
-pub fn status_name<'a>(status: u32, text: &'a mut [u8], answer: &'a mut Answer) -> u32
-    ensures { ReportsStatus status text.old text.new answer.new result }
-{
-    match name_of_status(status) {
-        Ok(name) => report_bytes(name.as_bytes(), text, answer),
-        Err(fault) => report_fault(&fault, answer),
-    }
-}
-
-/// Writes the name of a fault.
-pub fn fault_name<'a>(status: u32, fault: u32, text: &'a mut [u8], answer: &'a mut Answer) -> u32
-    ensures { ReportsFault status fault text.old text.new answer.new result }
-{
-    match name_of_fault(status, fault) {
-        Ok(name) => report_bytes(name.as_bytes(), text, answer),
-        Err(fault) => report_fault(&fault, answer),
     }
 }

@@ -23,14 +23,14 @@ pub enum Handle {
 /// A schema, which handles of types and filters share.
 #[derive(Drop)]
 pub struct SchemaHandle {
-    pub(crate) schema: Arc<Schema>,
+    pub schema: Arc<Schema>,
 }
 
 /// An entity type with its schema, and the layout of its rows where nothing is expanded. Filters share that layout.
 #[derive(Drop)]
 pub struct TypeHandle {
-    pub(crate) schema: Arc<Schema>,
-    pub(crate) id: TypeId,
+    pub schema: Arc<Schema>,
+    pub id: TypeId,
     pub(crate) layout: Arc<RowLayout<'static>>,
 }
 
@@ -77,7 +77,7 @@ impl Model for FilterHandle {
 impl FilterHandle {
     /// The filter, with its schema.
     #[inline(always)]
-    pub(crate) fn checked(&self) -> Checked<'_>
+    pub fn checked(&self) -> Checked<'_>
         ensures { result ≡ self.now }
     {
         self.filter.with_schema(&self.schema)

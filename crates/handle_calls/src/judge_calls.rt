@@ -110,8 +110,8 @@ pub fn put_moment(handle: &mut Handle, text: &[u8]) -> u32
     }
 }
 
-/// The moment for a filter: the judge's, or the first one of year 1 where the filter does not ask for it.
-pub(crate) fn moment_for(checked: &Checked<'_>, given: Option<Moment>) -> Result<Moment, Fault>
+/// Returns the moment that is given, or the first of year 1 where the filter asks for none.
+pub fn moment_for(checked: &Checked<'_>, given: Option<Moment>) -> Result<Moment, Fault>
     ensures moment { IfOk result (IsMomentFor checked.now given) }
     ensures needed { IfErr result (λ fault. fault ≡ Fault.MomentNeeded) }
     ensures asks { IfErr result (λ _. UsesNow (tree_of_filter checked.now)) }

@@ -2,13 +2,14 @@
 use Rattle.std.specs.Prelude.{◌≡◌, ℕ, List, [], ◌∷◌}
 use base.Fml.{Fml, fsep, feq, fex}
 use denote.RawPtr.{Ptr}
-use Rattle.odfilter_c.specs.Loans.{Loan, borrowed_fault, borrowed_handle, borrowed_judge, borrowed_bytes, borrowed_buffer, borrowed_made, borrowed_answer, left_judge, left_buffer, left_made, left_answer, unless_null, holds, of_optional, of_bytes}
+use Rattle.odfilter_c.specs.Loans.{Loan, borrowed_fault, borrowed_handle, borrowed_judge, borrowed_bytes, borrowed_buffer, borrowed_made, borrowed_answer, left_judge, left_buffer, left_made, left_answer, unless_null, holds, of_optional, of_buffer, of_bytes}
 use Rattle.handle_calls.specs.declared.answer.Answer.{Answer}
 use Rattle.odfilter_c.specs.declared.c_types.Bytes.{Bytes}
 use Rattle.odfilter_c.specs.declared.c_types.Buffer.{Buffer}
 use Rattle.handle_calls.specs.declared.handle.Handle.{Handle}
 use Rattle.handle_calls.specs.declared.owned.Owned.{Owned}
-use Rattle.handle_calls.specs.Reports.{ReadsSchema, FindsType, ChecksText, ChecksQuery, Frees, ReportsVersion, ReportsStatus, ReportsFault}
+use Rattle.handle_calls.specs.Reports.{ReadsSchema, FindsType, ChecksText, ChecksQuery, Frees}
+use Rattle.report_calls.specs.Reports.{ReportsVersion, ReportsStatus, ReportsFault}
 use Rattle.handle_calls.specs.RowReports.{ReportsNeed, MakesJudge, SetsBound, SetsMoment, JudgesOne, FiltersLines, ReportsPath}
 
 -- what `odfilter_read_schema` borrows: bytes, a buffer, the new handle's variable and the answer
@@ -149,11 +150,12 @@ borrowed_by_path l judge path answer = fsep (borrowed_handle l judge) (fsep (bor
 
 -- what it leaves: all unchanged and the status 1 where an address may not be null and is, else what `ReportsPath` says
 abbrev pub left_by_path : Loan → Ptr → Buffer → Ptr → ℕ → Fml
-left_by_path l judge path answer result = unless_null (judge ∷ path.at ∷ answer ∷ [])
+left_by_path l judge path answer result = unless_null (judge ∷ answer ∷ [])
     (fsep (feq ℕ result 1) (borrowed_by_path l judge path answer))
     (fex (List ℕ) (λ path'. fex Answer (λ answer'.
     fsep (left_buffer l path path') (fsep (left_answer l answer answer')
-    (holds (ReportsPath l.handle l.buffer path' answer' result))))))
+    (holds (of_buffer path.at path.length l.buffer path' ((answer' ≡ l.answer) × (result ≡ 1))
+    (λ old new. ReportsPath l.handle old new answer' result)))))))
 
 -- what `odfilter_free` borrows: a handle's variable
 abbrev pub borrowed_by_free : Loan → Ptr → Fml
@@ -173,11 +175,12 @@ borrowed_by_version l text answer = fsep (borrowed_buffer l text) (borrowed_answ
 -- what it leaves: all unchanged and the status 1 where an address may not be null and is, else what `ReportsVersion`
 -- says
 abbrev pub left_by_version : Loan → Buffer → Ptr → ℕ → Fml
-left_by_version l text answer result = unless_null (text.at ∷ answer ∷ [])
+left_by_version l text answer result = unless_null (answer ∷ [])
     (fsep (feq ℕ result 1) (borrowed_by_version l text answer))
     (fex (List ℕ) (λ text'. fex Answer (λ answer'.
     fsep (left_buffer l text text') (fsep (left_answer l answer answer')
-    (holds (ReportsVersion l.buffer text' answer' result))))))
+    (holds (of_buffer text.at text.length l.buffer text' ((answer' ≡ l.answer) × (result ≡ 1))
+    (λ old new. ReportsVersion old new answer' result)))))))
 
 -- what `odfilter_status_name` borrows: a buffer and the answer
 abbrev pub borrowed_by_status_name : Loan → Buffer → Ptr → Fml
@@ -186,11 +189,12 @@ borrowed_by_status_name l text answer = fsep (borrowed_buffer l text) (borrowed_
 -- what it leaves: all unchanged and the status 1 where an address may not be null and is, else what `ReportsStatus`
 -- says
 abbrev pub left_by_status_name : Loan → ℕ → Buffer → Ptr → ℕ → Fml
-left_by_status_name l status text answer result = unless_null (text.at ∷ answer ∷ [])
+left_by_status_name l status text answer result = unless_null (answer ∷ [])
     (fsep (feq ℕ result 1) (borrowed_by_status_name l text answer))
     (fex (List ℕ) (λ text'. fex Answer (λ answer'.
     fsep (left_buffer l text text') (fsep (left_answer l answer answer')
-    (holds (ReportsStatus status l.buffer text' answer' result))))))
+    (holds (of_buffer text.at text.length l.buffer text' ((answer' ≡ l.answer) × (result ≡ 1))
+    (λ old new. ReportsStatus status old new answer' result)))))))
 
 -- what `odfilter_fault_name` borrows: a buffer and the answer
 abbrev pub borrowed_by_fault_name : Loan → Buffer → Ptr → Fml
@@ -198,8 +202,9 @@ borrowed_by_fault_name l text answer = fsep (borrowed_buffer l text) (borrowed_a
 
 -- what it leaves: all unchanged and the status 1 where an address may not be null and is, else what `ReportsFault` says
 abbrev pub left_by_fault_name : Loan → ℕ → ℕ → Buffer → Ptr → ℕ → Fml
-left_by_fault_name l status fault text answer result = unless_null (text.at ∷ answer ∷ [])
+left_by_fault_name l status fault text answer result = unless_null (answer ∷ [])
     (fsep (feq ℕ result 1) (borrowed_by_fault_name l text answer))
     (fex (List ℕ) (λ text'. fex Answer (λ answer'.
     fsep (left_buffer l text text') (fsep (left_answer l answer answer')
-    (holds (ReportsFault status fault l.buffer text' answer' result))))))
+    (holds (of_buffer text.at text.length l.buffer text' ((answer' ≡ l.answer) × (result ≡ 1))
+    (λ old new. ReportsFault status fault old new answer' result)))))))

@@ -2,16 +2,17 @@
 use Rattle.std.specs.Prelude.{◌≡◌, ℕ, List, [], ◌∷◌}
 use base.Fml.{Fml, fsep, feq, fex}
 use denote.RawPtr.{Ptr}
-use Rattle.odfilter_c.specs.Loans.{Loan, borrowed_fault, borrowed_handle, borrowed_judge, borrowed_bytes, borrowed_buffer, borrowed_made, borrowed_answer, left_judge, left_buffer, left_made, left_answer, unless_null, holds, of_optional, of_bytes}
+use Rattle.odfilter_c.specs.Loans.{Loan, borrowed_fault, borrowed_handle, borrowed_judge, borrowed_bytes, borrowed_buffer, borrowed_made, borrowed_answer, left_judge, left_buffer, left_made, left_answer, unless_null, holds, of_optional, of_buffer, of_bytes}
 use Rattle.handle_calls.specs.declared.answer.Answer.{Answer}
 use Rattle.odfilter_c.specs.declared.c_types.Bytes.{Bytes}
 use Rattle.odfilter_c.specs.declared.c_types.Buffer.{Buffer}
 use Rattle.handle_calls.specs.declared.handle.Handle.{Handle}
 use Rattle.handle_calls.specs.declared.owned.Owned.{Owned}
 use Rattle.handle_calls.specs.UrlCalls.{ChecksUrl}
-use Rattle.handle_calls.specs.Reports.{ReportsCanonical, ReportsNodes, ReportsSql}
+use Rattle.handle_calls.specs.Reports.{ReportsCanonical, ReportsNodes}
+use Rattle.report_calls.specs.Reports.{ReportsSql}
 use Rattle.handle_calls.specs.Costs.{ReportsNodeCount, ReportsLambdaDepth, ReportsPaths}
-use Rattle.handle_calls.specs.Sentences.{ReportsSentenceFor, ReportsSentence}
+use Rattle.report_calls.specs.Sentences.{ReportsSentenceFor, ReportsSentence}
 
 -- what `odfilter_check_url` borrows: a handle, bytes, a buffer, the new handle's variable and the answer
 abbrev pub borrowed_by_check_url : Loan → Ptr → Bytes → Buffer → Ptr → Ptr → Fml
@@ -36,13 +37,14 @@ borrowed_by_sql l filter how text answer =
 
 -- what it leaves: all unchanged and the status 1 where an address may not be null and is, else what `ReportsSql` says
 abbrev pub left_by_sql : Loan → Ptr → ℕ → Bytes → Buffer → Ptr → ℕ → Fml
-left_by_sql l filter form how text answer result = unless_null (filter ∷ text.at ∷ answer ∷ [])
+left_by_sql l filter form how text answer result = unless_null (filter ∷ answer ∷ [])
     (fsep (feq ℕ result 1) (borrowed_by_sql l filter how text answer))
     (fex (List ℕ) (λ text'. fex Answer (λ answer'.
     fsep (left_buffer l text text') (fsep (left_answer l answer answer')
-    (holds (of_bytes how.at how.length l.bytes
-    ((text' ≡ l.buffer) × ((answer' ≡ l.answer) × (result ≡ 1)))
-    (λ bytes. ReportsSql l.handle form bytes l.buffer text' answer' result)))))))
+    (holds (of_buffer text.at text.length l.buffer text' ((answer' ≡ l.answer) × (result ≡ 1))
+    (λ old new. of_bytes how.at how.length l.bytes
+    ((new ≡ old) × ((answer' ≡ l.answer) × (result ≡ 1)))
+    (λ bytes. ReportsSql l.handle form bytes old new answer' result))))))))
 
 -- what `odfilter_canonical` borrows: a handle, a buffer and the answer
 abbrev pub borrowed_by_canonical : Loan → Ptr → Buffer → Ptr → Fml
@@ -51,11 +53,12 @@ borrowed_by_canonical l filter text answer = fsep (borrowed_handle l filter) (fs
 -- what it leaves: all unchanged and the status 1 where an address may not be null and is, else what `ReportsCanonical`
 -- says
 abbrev pub left_by_canonical : Loan → Ptr → Buffer → Ptr → ℕ → Fml
-left_by_canonical l filter text answer result = unless_null (filter ∷ text.at ∷ answer ∷ [])
+left_by_canonical l filter text answer result = unless_null (filter ∷ answer ∷ [])
     (fsep (feq ℕ result 1) (borrowed_by_canonical l filter text answer))
     (fex (List ℕ) (λ text'. fex Answer (λ answer'.
     fsep (left_buffer l text text') (fsep (left_answer l answer answer')
-    (holds (ReportsCanonical l.handle l.buffer text' answer' result))))))
+    (holds (of_buffer text.at text.length l.buffer text' ((answer' ≡ l.answer) × (result ≡ 1))
+    (λ old new. ReportsCanonical l.handle old new answer' result)))))))
 
 -- what `odfilter_explain` borrows: a handle, a buffer and the answer
 abbrev pub borrowed_by_explain : Loan → Ptr → Buffer → Ptr → Fml
@@ -63,11 +66,12 @@ borrowed_by_explain l filter text answer = fsep (borrowed_handle l filter) (fsep
 
 -- what it leaves: all unchanged and the status 1 where an address may not be null and is, else what `ReportsNodes` says
 abbrev pub left_by_explain : Loan → Ptr → Buffer → Ptr → ℕ → Fml
-left_by_explain l filter text answer result = unless_null (filter ∷ text.at ∷ answer ∷ [])
+left_by_explain l filter text answer result = unless_null (filter ∷ answer ∷ [])
     (fsep (feq ℕ result 1) (borrowed_by_explain l filter text answer))
     (fex (List ℕ) (λ text'. fex Answer (λ answer'.
     fsep (left_buffer l text text') (fsep (left_answer l answer answer')
-    (holds (ReportsNodes l.handle l.buffer text' answer' result))))))
+    (holds (of_buffer text.at text.length l.buffer text' ((answer' ≡ l.answer) × (result ≡ 1))
+    (λ old new. ReportsNodes l.handle old new answer' result)))))))
 
 -- what `odfilter_node_count` borrows: a handle and the answer
 abbrev pub borrowed_by_node_count : Loan → Ptr → Ptr → Fml
@@ -100,11 +104,12 @@ borrowed_by_property_paths l filter paths answer =
 
 -- what it leaves: all unchanged and the status 1 where an address may not be null and is, else what `ReportsPaths` says
 abbrev pub left_by_property_paths : Loan → Ptr → Buffer → Ptr → ℕ → Fml
-left_by_property_paths l filter paths answer result = unless_null (filter ∷ paths.at ∷ answer ∷ [])
+left_by_property_paths l filter paths answer result = unless_null (filter ∷ answer ∷ [])
     (fsep (feq ℕ result 1) (borrowed_by_property_paths l filter paths answer))
     (fex (List ℕ) (λ paths'. fex Answer (λ answer'.
     fsep (left_buffer l paths paths') (fsep (left_answer l answer answer')
-    (holds (ReportsPaths l.handle l.buffer paths' answer' result))))))
+    (holds (of_buffer paths.at paths.length l.buffer paths' ((answer' ≡ l.answer) × (result ≡ 1))
+    (λ old new. ReportsPaths l.handle old new answer' result)))))))
 
 -- what `odfilter_fault_text` borrows: a handle, bytes, a buffer, a fault's answer and the answer
 abbrev pub borrowed_by_fault_text : Loan → Ptr → Bytes → Buffer → Ptr → Ptr → Fml
@@ -115,12 +120,16 @@ borrowed_by_fault_text l given text sentence fault answer =
 -- what it leaves: all unchanged and the status 1 where an address other than the type's is null, else what
 -- `ReportsSentence` says, or with a type `ReportsSentenceFor`
 abbrev pub left_by_fault_text : Loan → Ptr → ℕ → Bytes → Buffer → Ptr → Ptr → ℕ → Fml
-left_by_fault_text l given status text sentence fault answer result = unless_null (sentence.at ∷ fault ∷ answer ∷ [])
+left_by_fault_text l given status text sentence fault answer result = unless_null (fault ∷ answer ∷ [])
     (fsep (feq ℕ result 1) (borrowed_by_fault_text l given text sentence fault answer))
     (fex (List ℕ) (λ sentence'. fex Answer (λ answer'.
     fsep (left_buffer l sentence sentence') (fsep (left_answer l answer answer')
     (holds (of_optional given
-    (of_bytes text.at text.length l.bytes ((sentence' ≡ l.buffer) × ((answer' ≡ l.answer) × (result ≡ 1)))
-    (λ bytes. ReportsSentence status bytes l.buffer sentence' l.fault answer' result))
-    (of_bytes text.at text.length l.bytes ((sentence' ≡ l.buffer) × ((answer' ≡ l.answer) × (result ≡ 1)))
-    (λ bytes. ReportsSentenceFor l.handle status bytes l.buffer sentence' l.fault answer' result))))))))
+    (of_buffer sentence.at sentence.length l.buffer sentence' ((answer' ≡ l.answer) × (result ≡ 1))
+    (λ old new. of_bytes text.at text.length l.bytes
+    ((new ≡ old) × ((answer' ≡ l.answer) × (result ≡ 1)))
+    (λ bytes. ReportsSentence status bytes old new l.fault answer' result)))
+    (of_buffer sentence.at sentence.length l.buffer sentence' ((answer' ≡ l.answer) × (result ≡ 1))
+    (λ old new. of_bytes text.at text.length l.bytes
+    ((new ≡ old) × ((answer' ≡ l.answer) × (result ≡ 1)))
+    (λ bytes. ReportsSentenceFor l.handle status bytes old new l.fault answer' result)))))))))

@@ -8,6 +8,7 @@ use Rattle.odfilter_c.specs.declared.c_types.Bytes.{Bytes}
 use Rattle.handle_calls.specs.declared.handle.Handle.{Handle}
 use Rattle.handle_calls.specs.declared.owned.Owned.{Owned}
 use Rattle.handle_calls.specs.RowReports.{MakesJudgeOf, JudgesNext}
+use Rattle.handle_calls.specs.Shares.{Shares}
 
 -- what `odfilter_new_judge_of` borrows: a handle and the new handle's variable
 abbrev pub borrowed_by_new_judge_of : Loan → Ptr → Ptr → Fml
@@ -32,3 +33,14 @@ left_by_judge_next l judge row answer result = unless_null (judge ∷ answer ∷
     fsep (left_judge l judge judge') (fsep (left_answer l answer answer')
     (holds (of_bytes row.at row.length l.bytes ((judge' ≡ l.judge) × ((answer' ≡ l.answer) × (result ≡ 1)))
     (λ bytes. JudgesNext l.judge judge' bytes answer' result)))))))
+
+-- what `odfilter_share` borrows: a handle and the new handle's variable
+abbrev pub borrowed_by_share : Loan → Ptr → Ptr → Fml
+borrowed_by_share l handle made = fsep (borrowed_handle l handle) (borrowed_made l made)
+
+-- what it leaves: all unchanged and the status 1 where an address may not be null and is, else what `Shares` says
+abbrev pub left_by_share : Loan → Ptr → Ptr → ℕ → Fml
+left_by_share l handle made result = unless_null (handle ∷ made ∷ [])
+    (fsep (feq ℕ result 1) (borrowed_by_share l handle made))
+    (fex Owned (λ made'.
+    fsep (left_made l made made') (holds (Shares l.handle made' result))))

@@ -1,4 +1,6 @@
-//! What C passes by value, as the header declares it.
+//! What C passes by value, as the header declares it, and how large its answers have to be.
+ghost use Rattle.std.specs.Prelude.{◌≡◌};
+ghost use Rattle.odfilter_c.specs.Sizes.{fits_status};
 
 /// Bytes that are borrowed for a call.
 #[repr(C)]
@@ -14,4 +16,15 @@ pub struct Bytes {
 pub struct Buffer {
     pub at: *mut u8,
     pub length: usize,
+}
+
+/// Returns 0 where an answer of so many bytes holds all that the calls report, else 4.
+#[unsafe(no_mangle)]
+pub extern "C" fn odfilter_fits(answer_size: u64) -> u32
+    ensures { result ≡ fits_status answer_size }
+{
+    if answer_size < 96 {
+        return 4;
+    }
+    0
 }

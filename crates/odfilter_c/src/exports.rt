@@ -20,8 +20,9 @@ ghost use Rattle.odfilter_c.specs.Exports.{borrowed_by_status_name, left_by_stat
 ghost use Rattle.odfilter_c.specs.Exports.{borrowed_by_fault_name, left_by_fault_name};
 
 use crate::c_types::{Buffer, Bytes};
-use crate::null_calls;
+use crate::{length_calls, null_calls};
 use handle_calls::{Answer, Handle, Owned, calls};
+use report_calls::calls as reports;
 use std::alloc::Global;
 use std::slice::{from_raw_parts, from_raw_parts_mut};
 
@@ -381,18 +382,19 @@ pub unsafe extern "C" fn odfilter_path(judge: *const u8, path: Buffer, answer: *
     if judge.is_null() {
         return 1;
     }
-    if path.at.is_null() {
-        return 1;
-    }
     if answer.is_null() {
         return 1;
     }
-    unsafe {
-        calls::path(
-            &*(judge as *const Handle),
-            from_raw_parts_mut(path.at, path.length),
-            &mut *answer,
-        )
+    if path.at.is_null() {
+        unsafe { length_calls::path_to_null(&*(judge as *const Handle), path.length, &mut *answer) }
+    } else {
+        unsafe {
+            calls::path(
+                &*(judge as *const Handle),
+                from_raw_parts_mut(path.at, path.length),
+                &mut *answer,
+            )
+        }
     }
 }
 
@@ -418,13 +420,14 @@ pub unsafe extern "C" fn odfilter_version(text: Buffer, answer: *mut Answer) -> 
     requires* borrowed { sem 𝓛 (flft loan.lifetime loan.share) ∗ sem 𝓛 (borrowed_by_version loan text answer) }
     ensures* { sem 𝓛 (flft loan.lifetime loan.share) ∗ sem 𝓛 (left_by_version loan text answer result) }
 {
-    if text.at.is_null() {
-        return 1;
-    }
     if answer.is_null() {
         return 1;
     }
-    unsafe { calls::version(from_raw_parts_mut(text.at, text.length), &mut *answer) }
+    if text.at.is_null() {
+        unsafe { length_calls::version_to_null(text.length, &mut *answer) }
+    } else {
+        unsafe { reports::version(from_raw_parts_mut(text.at, text.length), &mut *answer) }
+    }
 }
 
 /// Writes the name of a status.
@@ -435,18 +438,19 @@ pub unsafe extern "C" fn odfilter_status_name(status: u32, text: Buffer, answer:
     requires* borrowed { sem 𝓛 (flft loan.lifetime loan.share) ∗ sem 𝓛 (borrowed_by_status_name loan text answer) }
     ensures* { sem 𝓛 (flft loan.lifetime loan.share) ∗ sem 𝓛 (left_by_status_name loan status text answer result) }
 {
-    if text.at.is_null() {
-        return 1;
-    }
     if answer.is_null() {
         return 1;
     }
-    unsafe {
-        calls::status_name(
-            status,
-            from_raw_parts_mut(text.at, text.length),
-            &mut *answer,
-        )
+    if text.at.is_null() {
+        unsafe { length_calls::status_name_to_null(status, text.length, &mut *answer) }
+    } else {
+        unsafe {
+            reports::status_name(
+                status,
+                from_raw_parts_mut(text.at, text.length),
+                &mut *answer,
+            )
+        }
     }
 }
 
@@ -463,18 +467,19 @@ pub unsafe extern "C" fn odfilter_fault_name(
     requires* borrowed { sem 𝓛 (flft loan.lifetime loan.share) ∗ sem 𝓛 (borrowed_by_fault_name loan text answer) }
     ensures* { sem 𝓛 (flft loan.lifetime loan.share) ∗ sem 𝓛 (left_by_fault_name loan status fault text answer result) }
 {
-    if text.at.is_null() {
-        return 1;
-    }
     if answer.is_null() {
         return 1;
     }
-    unsafe {
-        calls::fault_name(
-            status,
-            fault,
-            from_raw_parts_mut(text.at, text.length),
-            &mut *answer,
-        )
+    if text.at.is_null() {
+        unsafe { length_calls::fault_name_to_null(status, fault, text.length, &mut *answer) }
+    } else {
+        unsafe {
+            reports::fault_name(
+                status,
+                fault,
+                from_raw_parts_mut(text.at, text.length),
+                &mut *answer,
+            )
+        }
     }
 }

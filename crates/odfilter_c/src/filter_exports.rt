@@ -13,8 +13,9 @@ ghost use Rattle.odfilter_c.specs.FilterExports.{borrowed_by_fault_text, left_by
 ghost use Rattle.odfilter_c.specs.FilterExports.{borrowed_by_sql, left_by_sql};
 
 use crate::c_types::{Buffer, Bytes};
-use crate::null_calls;
+use crate::{length_calls, null_calls};
 use handle_calls::{Answer, Handle, Owned, calls};
+use report_calls::calls as reports;
 use std::alloc::Global;
 use std::slice::{from_raw_parts, from_raw_parts_mut};
 
@@ -92,33 +93,56 @@ pub unsafe extern "C" fn odfilter_sql(
     if filter.is_null() {
         return 1;
     }
-    if text.at.is_null() {
-        return 1;
-    }
     if answer.is_null() {
         return 1;
     }
-    if how.at.is_null() {
-        unsafe {
-            null_calls::sql_at_null(
-                alloc,
-                &*(filter as *const Handle),
-                form,
-                how.length,
-                from_raw_parts_mut(text.at, text.length),
-                &mut *answer,
-            )
+    if text.at.is_null() {
+        if how.at.is_null() {
+            unsafe {
+                length_calls::sql_to_null_at_null(
+                    alloc,
+                    &*(filter as *const Handle),
+                    form,
+                    how.length,
+                    text.length,
+                    &mut *answer,
+                )
+            }
+        } else {
+            unsafe {
+                length_calls::sql_to_null(
+                    alloc,
+                    &*(filter as *const Handle),
+                    form,
+                    from_raw_parts(how.at, how.length),
+                    text.length,
+                    &mut *answer,
+                )
+            }
         }
     } else {
-        unsafe {
-            calls::sql(
-                alloc,
-                &*(filter as *const Handle),
-                form,
-                from_raw_parts(how.at, how.length),
-                from_raw_parts_mut(text.at, text.length),
-                &mut *answer,
-            )
+        if how.at.is_null() {
+            unsafe {
+                null_calls::sql_at_null(
+                    alloc,
+                    &*(filter as *const Handle),
+                    form,
+                    how.length,
+                    from_raw_parts_mut(text.at, text.length),
+                    &mut *answer,
+                )
+            }
+        } else {
+            unsafe {
+                reports::sql(
+                    alloc,
+                    &*(filter as *const Handle),
+                    form,
+                    from_raw_parts(how.at, how.length),
+                    from_raw_parts_mut(text.at, text.length),
+                    &mut *answer,
+                )
+            }
         }
     }
 }
@@ -139,19 +163,27 @@ pub unsafe extern "C" fn odfilter_canonical(
     if filter.is_null() {
         return 1;
     }
-    if text.at.is_null() {
-        return 1;
-    }
     if answer.is_null() {
         return 1;
     }
-    unsafe {
-        calls::canonical(
-            alloc,
-            &*(filter as *const Handle),
-            from_raw_parts_mut(text.at, text.length),
-            &mut *answer,
-        )
+    if text.at.is_null() {
+        unsafe {
+            length_calls::canonical_to_null(
+                alloc,
+                &*(filter as *const Handle),
+                text.length,
+                &mut *answer,
+            )
+        }
+    } else {
+        unsafe {
+            calls::canonical(
+                alloc,
+                &*(filter as *const Handle),
+                from_raw_parts_mut(text.at, text.length),
+                &mut *answer,
+            )
+        }
     }
 }
 
@@ -171,19 +203,27 @@ pub unsafe extern "C" fn odfilter_explain(
     if filter.is_null() {
         return 1;
     }
-    if text.at.is_null() {
-        return 1;
-    }
     if answer.is_null() {
         return 1;
     }
-    unsafe {
-        calls::explain(
-            alloc,
-            &*(filter as *const Handle),
-            from_raw_parts_mut(text.at, text.length),
-            &mut *answer,
-        )
+    if text.at.is_null() {
+        unsafe {
+            length_calls::explain_to_null(
+                alloc,
+                &*(filter as *const Handle),
+                text.length,
+                &mut *answer,
+            )
+        }
+    } else {
+        unsafe {
+            calls::explain(
+                alloc,
+                &*(filter as *const Handle),
+                from_raw_parts_mut(text.at, text.length),
+                &mut *answer,
+            )
+        }
     }
 }
 
@@ -238,19 +278,27 @@ pub unsafe extern "C" fn odfilter_property_paths(
     if filter.is_null() {
         return 1;
     }
-    if paths.at.is_null() {
-        return 1;
-    }
     if answer.is_null() {
         return 1;
     }
-    unsafe {
-        calls::property_paths(
-            alloc,
-            &*(filter as *const Handle),
-            from_raw_parts_mut(paths.at, paths.length),
-            &mut *answer,
-        )
+    if paths.at.is_null() {
+        unsafe {
+            length_calls::property_paths_to_null(
+                alloc,
+                &*(filter as *const Handle),
+                paths.length,
+                &mut *answer,
+            )
+        }
+    } else {
+        unsafe {
+            calls::property_paths(
+                alloc,
+                &*(filter as *const Handle),
+                from_raw_parts_mut(paths.at, paths.length),
+                &mut *answer,
+            )
+        }
     }
 }
 
@@ -273,9 +321,6 @@ pub unsafe extern "C" fn odfilter_fault_text(
     ensures* { sem 𝓛 (flft loan.lifetime loan.share)
         ∗ sem 𝓛 (left_by_fault_text loan given status text sentence fault answer result) }
 {
-    if sentence.at.is_null() {
-        return 1;
-    }
     if fault.is_null() {
         return 1;
     }
@@ -283,53 +328,107 @@ pub unsafe extern "C" fn odfilter_fault_text(
         return 1;
     }
     if given.is_null() {
-        if text.at.is_null() {
-            unsafe {
-                null_calls::fault_text_alone_at_null(
-                    alloc,
-                    status,
-                    text.length,
-                    from_raw_parts_mut(sentence.at, sentence.length),
-                    &*fault,
-                    &mut *answer,
-                )
+        if sentence.at.is_null() {
+            if text.at.is_null() {
+                unsafe {
+                    length_calls::fault_text_alone_to_null_at_null(
+                        alloc,
+                        status,
+                        text.length,
+                        sentence.length,
+                        &*fault,
+                        &mut *answer,
+                    )
+                }
+            } else {
+                unsafe {
+                    length_calls::fault_text_alone_to_null(
+                        alloc,
+                        status,
+                        from_raw_parts(text.at, text.length),
+                        sentence.length,
+                        &*fault,
+                        &mut *answer,
+                    )
+                }
             }
         } else {
-            unsafe {
-                calls::fault_text_alone(
-                    alloc,
-                    status,
-                    from_raw_parts(text.at, text.length),
-                    from_raw_parts_mut(sentence.at, sentence.length),
-                    &*fault,
-                    &mut *answer,
-                )
+            if text.at.is_null() {
+                unsafe {
+                    null_calls::fault_text_alone_at_null(
+                        alloc,
+                        status,
+                        text.length,
+                        from_raw_parts_mut(sentence.at, sentence.length),
+                        &*fault,
+                        &mut *answer,
+                    )
+                }
+            } else {
+                unsafe {
+                    reports::fault_text_alone(
+                        alloc,
+                        status,
+                        from_raw_parts(text.at, text.length),
+                        from_raw_parts_mut(sentence.at, sentence.length),
+                        &*fault,
+                        &mut *answer,
+                    )
+                }
             }
         }
     } else {
-        if text.at.is_null() {
-            unsafe {
-                null_calls::fault_text_at_null(
-                    alloc,
-                    &*(given as *const Handle),
-                    status,
-                    text.length,
-                    from_raw_parts_mut(sentence.at, sentence.length),
-                    &*fault,
-                    &mut *answer,
-                )
+        if sentence.at.is_null() {
+            if text.at.is_null() {
+                unsafe {
+                    length_calls::fault_text_to_null_at_null(
+                        alloc,
+                        &*(given as *const Handle),
+                        status,
+                        text.length,
+                        sentence.length,
+                        &*fault,
+                        &mut *answer,
+                    )
+                }
+            } else {
+                unsafe {
+                    length_calls::fault_text_to_null(
+                        alloc,
+                        &*(given as *const Handle),
+                        status,
+                        from_raw_parts(text.at, text.length),
+                        sentence.length,
+                        &*fault,
+                        &mut *answer,
+                    )
+                }
             }
         } else {
-            unsafe {
-                calls::fault_text(
-                    alloc,
-                    &*(given as *const Handle),
-                    status,
-                    from_raw_parts(text.at, text.length),
-                    from_raw_parts_mut(sentence.at, sentence.length),
-                    &*fault,
-                    &mut *answer,
-                )
+            if text.at.is_null() {
+                unsafe {
+                    null_calls::fault_text_at_null(
+                        alloc,
+                        &*(given as *const Handle),
+                        status,
+                        text.length,
+                        from_raw_parts_mut(sentence.at, sentence.length),
+                        &*fault,
+                        &mut *answer,
+                    )
+                }
+            } else {
+                unsafe {
+                    reports::fault_text(
+                        alloc,
+                        &*(given as *const Handle),
+                        status,
+                        from_raw_parts(text.at, text.length),
+                        from_raw_parts_mut(sentence.at, sentence.length),
+                        &*fault,
+                        &mut *answer,
+                    )
+                }
             }
         }
     }

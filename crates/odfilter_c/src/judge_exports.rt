@@ -1,10 +1,11 @@
-//! What C calls of judges that have a filter of their own, as the other exports are.
+//! What C calls of judges that have a filter of their own, and for another owner of a handle, as the other exports are.
 ghost use types.Logic.{sem};
 ghost use base.Fml.{flft};
 ghost use denote.RawPtr.{Testable};
 ghost use Rattle.odfilter_c.specs.Loans.{Loan};
 ghost use Rattle.odfilter_c.specs.JudgeExports.{borrowed_by_new_judge_of, left_by_new_judge_of};
 ghost use Rattle.odfilter_c.specs.JudgeExports.{borrowed_by_judge_next, left_by_judge_next};
+ghost use Rattle.odfilter_c.specs.JudgeExports.{borrowed_by_share, left_by_share};
 
 use crate::c_types::Bytes;
 use crate::null_calls;
@@ -60,4 +61,21 @@ pub unsafe extern "C" fn odfilter_judge_next(judge: *mut u8, row: Bytes, answer:
             )
         }
     }
+}
+
+/// Makes another handle of the same schema, type or filter.
+#[unsafe(no_mangle)]
+pub unsafe extern "C" fn odfilter_share(alloc: Global, handle: *const u8, made: *mut Owned) -> u32
+    ghost loan: { Loan }
+    requires testable { (Testable handle) × (Testable made) }
+    requires* borrowed { sem 𝓛 (flft loan.lifetime loan.share) ∗ sem 𝓛 (borrowed_by_share loan handle made) }
+    ensures* { sem 𝓛 (flft loan.lifetime loan.share) ∗ sem 𝓛 (left_by_share loan handle made result) }
+{
+    if handle.is_null() {
+        return 1;
+    }
+    if made.is_null() {
+        return 1;
+    }
+    unsafe { calls::share(alloc, &*(handle as *const Handle), &mut *made) }
 }

@@ -9,11 +9,14 @@
 //! ```
 #![tactic(auto)]
 
-mod c_types;
+pub mod c_types;
 pub mod exports;
+pub mod fault_exports;
 pub mod filter_exports;
 pub mod judge_exports;
+mod length_calls;
 mod null_calls;
+pub mod type_exports;
 
 pub use c_types::{Buffer, Bytes};
 pub use handle_calls::Answer;

@@ -2,12 +2,14 @@
 //! status is that of a null address, and nothing is written.
 ghost use Rattle.std.specs.Prelude.{◌≡◌, []};
 ghost use Rattle.odfilter_c.specs.Loans.{UnlessLong};
-ghost use Rattle.handle_calls.specs.Reports.{ReadsSchema, FindsType, ChecksText, ChecksQuery, ReportsSql};
+ghost use Rattle.handle_calls.specs.Reports.{ReadsSchema, FindsType, ChecksText, ChecksQuery};
+ghost use Rattle.report_calls.specs.Reports.{ReportsSql};
 ghost use Rattle.handle_calls.specs.UrlCalls.{ChecksUrl};
 ghost use Rattle.handle_calls.specs.RowReports.{SetsMoment, JudgesOne, JudgesNext, FiltersLines};
-ghost use Rattle.handle_calls.specs.Sentences.{ReportsSentence, ReportsSentenceFor};
+ghost use Rattle.report_calls.specs.Sentences.{ReportsSentence, ReportsSentenceFor};
 
 use handle_calls::{Answer, Handle, Owned, calls, put_moment, report_next};
+use report_calls::calls as reports;
 use std::alloc::Global;
 
 pub(crate) fn read_schema_at_null<'a>(
@@ -105,7 +107,7 @@ pub(crate) fn sql_at_null<'a>(
     if length > 0 {
         return 1;
     }
-    calls::sql(alloc, filter, form, b"".as_slice(), text, answer)
+    reports::sql(alloc, filter, form, b"".as_slice(), text, answer)
 }
 
 pub(crate) fn set_moment_at_null<'a>(judge: &'a mut Handle, length: usize) -> u32
@@ -177,7 +179,7 @@ pub(crate) fn fault_text_alone_at_null<'a>(
     if length > 0 {
         return 1;
     }
-    calls::fault_text_alone(alloc, status, b"".as_slice(), sentence, fault, answer)
+    reports::fault_text_alone(alloc, status, b"".as_slice(), sentence, fault, answer)
 }
 
 pub(crate) fn fault_text_at_null<'a>(
@@ -195,7 +197,7 @@ pub(crate) fn fault_text_at_null<'a>(
     if length > 0 {
         return 1;
     }
-    calls::fault_text(
+    reports::fault_text(
         alloc,
         given,
         status,
@@ -204,4 +206,39 @@ pub(crate) fn fault_text_at_null<'a>(
         fault,
         answer,
     )
+}
+
+pub(crate) fn fault_json_alone_at_null<'a>(
+    alloc: Global,
+    status: u32,
+    length: usize,
+    object: &'a mut [u8],
+    fault: &'a Answer,
+    answer: &'a mut Answer,
+) -> u32
+    ensures { UnlessLong length ((object.new ≡ object.old) × ((answer.new ≡ answer.old) × (result ≡ 1)))
+        (ReportsSentence status [] object.old object.new fault.now answer.new result) }
+{
+    if length > 0 {
+        return 1;
+    }
+    reports::fault_json_alone(alloc, status, b"".as_slice(), object, fault, answer)
+}
+
+pub(crate) fn fault_json_at_null<'a>(
+    alloc: Global,
+    given: &'a Handle,
+    status: u32,
+    length: usize,
+    object: &'a mut [u8],
+    fault: &'a Answer,
+    answer: &'a mut Answer,
+) -> u32
+    ensures { UnlessLong length ((object.new ≡ object.old) × ((answer.new ≡ answer.old) × (result ≡ 1)))
+        (ReportsSentenceFor given.now status [] object.old object.new fault.now answer.new result) }
+{
+    if length > 0 {
+        return 1;
+    }
+    reports::fault_json(alloc, given, status, b"".as_slice(), object, fault, answer)
 }

@@ -145,6 +145,7 @@ extern "C" {
         answer: *mut odfilter_answer) -> u32;
     pub fn odfilter_find_type(
         schema: *const odfilter_handle, name: odfilter_bytes, r#type: *mut *mut odfilter_handle) -> u32;
+    pub fn odfilter_types(given: *const odfilter_handle, text: odfilter_buffer, answer: *mut odfilter_answer) -> u32;
     pub fn odfilter_check(
         r#type: *const odfilter_handle, text: odfilter_bytes, filter: *mut *mut odfilter_handle,
         answer: *mut odfilter_answer) -> u32;
@@ -177,12 +178,17 @@ extern "C" {
         filter: *const odfilter_handle, judge: *mut odfilter_handle, rows: odfilter_bytes, kept: odfilter_buffer,
         answer: *mut odfilter_answer) -> u32;
     pub fn odfilter_path(judge: *const odfilter_handle, path: odfilter_buffer, answer: *mut odfilter_answer) -> u32;
+    pub fn odfilter_share(handle: *const odfilter_handle, made: *mut *mut odfilter_handle) -> u32;
     pub fn odfilter_free(handle: *mut *mut odfilter_handle) -> u32;
+    pub fn odfilter_fits(answer_size: u64) -> u32;
     pub fn odfilter_version(text: odfilter_buffer, answer: *mut odfilter_answer) -> u32;
     pub fn odfilter_status_name(status: u32, text: odfilter_buffer, answer: *mut odfilter_answer) -> u32;
     pub fn odfilter_fault_name(status: u32, fault: u32, text: odfilter_buffer, answer: *mut odfilter_answer) -> u32;
     pub fn odfilter_fault_text(
         r#type: *const odfilter_handle, status: u32, text: odfilter_bytes, sentence: odfilter_buffer,
+        fault: *const odfilter_answer, answer: *mut odfilter_answer) -> u32;
+    pub fn odfilter_fault_json(
+        r#type: *const odfilter_handle, status: u32, text: odfilter_bytes, json: odfilter_buffer,
         fault: *const odfilter_answer, answer: *mut odfilter_answer) -> u32;
     pub fn odfilter_flat_read_schema(
         document: *const c_char, document_length: usize, names: *mut c_char, names_length: usize,
@@ -190,6 +196,8 @@ extern "C" {
     pub fn odfilter_flat_find_type(
         schema: *const odfilter_handle, name: *const c_char, name_length: usize,
         r#type: *mut *mut odfilter_handle) -> u32;
+    pub fn odfilter_flat_types(
+        given: *const odfilter_handle, text: *mut c_char, text_length: usize, answer: *mut odfilter_answer) -> u32;
     pub fn odfilter_flat_check(
         r#type: *const odfilter_handle, text: *const c_char, text_length: usize, filter: *mut *mut odfilter_handle,
         answer: *mut odfilter_answer) -> u32;
@@ -227,4 +235,7 @@ extern "C" {
     pub fn odfilter_flat_fault_text(
         r#type: *const odfilter_handle, status: u32, text: *const c_char, text_length: usize, sentence: *mut c_char,
         sentence_length: usize, fault: *const odfilter_answer, answer: *mut odfilter_answer) -> u32;
+    pub fn odfilter_flat_fault_json(
+        r#type: *const odfilter_handle, status: u32, text: *const c_char, text_length: usize, json: *mut c_char,
+        json_length: usize, fault: *const odfilter_answer, answer: *mut odfilter_answer) -> u32;
 }

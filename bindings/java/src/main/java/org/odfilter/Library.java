@@ -74,6 +74,12 @@ final class Library {
         return odfilter_flat_find_type(schema, name.at, name.length, type);
     }
 
+    static native int odfilter_flat_types(Pointer given, Pointer text, long textLength, Pointer answer);
+
+    static int odfilter_types(Pointer given, Bytes text, Pointer answer) {
+        return odfilter_flat_types(given, text.at, text.length, answer);
+    }
+
     static native int odfilter_flat_check(Pointer type, Pointer text, long textLength, Pointer filter, Pointer answer);
 
     static int odfilter_check(Pointer type, Bytes text, Pointer filter, Pointer answer) {
@@ -164,7 +170,11 @@ final class Library {
         return odfilter_flat_path(judge, path.at, path.length, answer);
     }
 
+    static native int odfilter_share(Pointer handle, Pointer made);
+
     static native int odfilter_free(Pointer handle);
+
+    static native int odfilter_fits(long answerSize);
 
     static native int odfilter_flat_version(Pointer text, long textLength, Pointer answer);
 
@@ -192,5 +202,13 @@ final class Library {
             Pointer type, int status, Bytes text, Bytes sentence, Pointer fault, Pointer answer) {
         return odfilter_flat_fault_text(
                 type, status, text.at, text.length, sentence.at, sentence.length, fault, answer);
+    }
+
+    static native int odfilter_flat_fault_json(
+            Pointer type, int status, Pointer text, long textLength, Pointer json, long jsonLength, Pointer fault,
+            Pointer answer);
+
+    static int odfilter_fault_json(Pointer type, int status, Bytes text, Bytes json, Pointer fault, Pointer answer) {
+        return odfilter_flat_fault_json(type, status, text.at, text.length, json.at, json.length, fault, answer);
     }
 }

@@ -23,6 +23,7 @@ final class Library {
 
     static final MethodHandle READ_SCHEMA = call("odfilter_read_schema", BYTES, BYTES, ADDRESS, ADDRESS);
     static final MethodHandle FIND_TYPE = call("odfilter_find_type", ADDRESS, BYTES, ADDRESS);
+    static final MethodHandle TYPES = call("odfilter_types", ADDRESS, BYTES, ADDRESS);
     static final MethodHandle CHECK = call("odfilter_check", ADDRESS, BYTES, ADDRESS, ADDRESS);
     static final MethodHandle CHECK_QUERY = call("odfilter_check_query", ADDRESS, BYTES, ADDRESS, ADDRESS);
     static final MethodHandle CHECK_URL = call("odfilter_check_url", ADDRESS, BYTES, BYTES, ADDRESS, ADDRESS);
@@ -41,12 +42,16 @@ final class Library {
     static final MethodHandle JUDGE_NEXT = call("odfilter_judge_next", ADDRESS, BYTES, ADDRESS);
     static final MethodHandle FILTER_LINES = call("odfilter_filter_lines", ADDRESS, ADDRESS, BYTES, BYTES, ADDRESS);
     static final MethodHandle PATH = call("odfilter_path", ADDRESS, BYTES, ADDRESS);
+    static final MethodHandle SHARE = call("odfilter_share", ADDRESS, ADDRESS);
     static final MethodHandle FREE = call("odfilter_free", ADDRESS);
+    static final MethodHandle FITS = call("odfilter_fits", JAVA_LONG);
     static final MethodHandle VERSION = call("odfilter_version", BYTES, ADDRESS);
     static final MethodHandle STATUS_NAME = call("odfilter_status_name", JAVA_INT, BYTES, ADDRESS);
     static final MethodHandle FAULT_NAME = call("odfilter_fault_name", JAVA_INT, JAVA_INT, BYTES, ADDRESS);
     static final MethodHandle FAULT_TEXT = call(
             "odfilter_fault_text", ADDRESS, JAVA_INT, BYTES, BYTES, ADDRESS, ADDRESS);
+    static final MethodHandle FAULT_JSON = call(
+            "odfilter_fault_json", ADDRESS, JAVA_INT, BYTES, BYTES, ADDRESS, ADDRESS);
 
     private Library() {
     }

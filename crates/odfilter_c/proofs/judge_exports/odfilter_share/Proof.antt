@@ -1,0 +1,72 @@
+-- `share` meets its contract: the addresses are tested one by one, and the call borrows what they point to.
+use Rattle.odfilter_c.proofs.Steps.{ℕ, ◌<◌, [], ◌∷◌, refl, lit<, w32, proved, leaves, none, there_is, Ura, SProp, id⊢, ftrue, fsep, flft, Val, vint, vptr, Memory, Routine, WpFn, Calls, Loops, Fun, fact, tables, FmC, Logic, ‵, raw, ◌⊛◌, prop, Sq, ◌$◌, ◌∵◌, !, qed, move, keep, drop, use0, use1, use2, split, join, fsplit, fjoin, fpack, pick, await, by, enter, of_opd, addr, stop, no_more, and_then, alloc_all, pass_all, free_all, get, through, sets, u32, yes, Typed, Is, shows, uint_Lawful, Ptr, RawPtr, block_ptr, null_ptr, ptr_val, Testable, rawptr_vals, rawptr_Tells, owns, types_at, plain, nothing, heard, peeks, Contract, Triple, calls_at_last, triple_of, Stays, walk_of, stay_dropped, Goes-dropped, framed, Global, GlobalRow, global_lowers, global_val, global_laws, Owned, HasNull, in_rest, trues, good, all_true, back, hold, unchanged, stands, tested, closes, inside, ends0}
+use Rattle.odfilter_c.specs.Loans.{Loan, left_made, holds}
+use Rattle.odfilter_c.specs.JudgeExports.{borrowed_by_share, left_by_share}
+use Rattle.handle_calls.specs.Shares.{Shares}
+use Rattle.handle_calls.specs.contracts.calls.share as g
+use Rattle.handle_calls.proofs.calls.share.Symbol.{name as #call}
+use Rattle.handle_calls.proofs.calls.share.Met.{met as met}
+use Rattle.odfilter_c.specs.contracts.judge_exports.odfilter_share as f
+use Rattle.odfilter_c.proofs.judge_exports.odfilter_share.Statement.{statement}
+use Rattle.odfilter_c.proofs.judge_exports.odfilter_share.Code as code
+
+abbrev stayed : Stays f.ended.signature.params f.ended.kept
+stayed = (stay_dropped _ yes, (stay_dropped _ yes, (stay_dropped _ yes, tt)))
+
+module _ {M : Type 1} {𝓤 : Ura M} (𝓛 : Logic 𝓤) (at_mem : Memory → SProp 𝓤) (run : Routine → Fun 𝓤) (C : Calls 𝓤 𝓛.H) (Λ : Loops 𝓤 𝓛.H) (fm : FmC 𝓤 𝓛.H 𝓛.laws C)
+    (known : Triple 𝓤 (C #call) (triple_of 𝓛 g.signature (g.spec 𝓛 at_mem run))) (l : Loan) where
+  open 𝓛 use {H}
+
+  abbrev G : Contract 𝓤
+  G = triple_of 𝓛 g.signature (g.spec 𝓛 at_mem run)
+
+  abbrev W : Contract 𝓤
+  W = walk_of 𝓛 f.ended stayed (f.clauses 𝓛 at_mem run)
+
+  abbrev bound : Global → Ptr → Ptr → W.Ghost
+  bound alloc handle made = ((tt, tt, tt, (alloc, (handle, (made, tt))), (global_val alloc ∷ [], (ptr_val handle ∷ [], (ptr_val made ∷ [], tt)))), l)
+
+  abbrev Walk : Global → Ptr → Ptr → Type 1
+  Walk alloc handle made = Sq 𝓛 (‵ (flft l.lifetime l.share) ∷ ‵ (borrowed_by_share l handle made) ∷ ‵ (GlobalRow.own_val alloc (global_val alloc ∷ [])) ∷ []) (prop (WpFn 𝓤 H C Λ code.function (global_val alloc ∷ ptr_val handle ∷ ptr_val made ∷ []) (W.post (bound alloc handle made))))
+
+  ends : (alloc : Global) (handle : Ptr) (made : Ptr) (v : Val) (x : ℕ) → Sq 𝓛 (‵ (left_by_share l handle made x) ∷ ‵ (u32.own_val x (v ∷ [])) ∷ ‵ (flft l.lifetime l.share) ∷ []) (prop (W.post (bound alloc handle made) v))
+  ends alloc handle made v x = move ! (2 ∷ 0 ∷ []) $ join ! $ move ! (1 ∷ []) $ use0 𝓛 (‵ (trues 3)) (all_true 𝓛 3) $ nothing ! $
+      by ! (leaves 𝓛 f.ended stayed (f.clauses 𝓛 at_mem run) (bound alloc handle made) v x (tt, (tt, (tt, tt))) (tt, (tt, (tt, tt))))
+
+  -- with a null address nothing is called
+  refused : (alloc : Global) (handle : Ptr) (made : Ptr) → Typed GlobalRow.mir (global_val alloc ∷ []) → Testable handle → Testable made → HasNull (handle ∷ made ∷ []) → Walk alloc handle made
+  refused alloc handle made fits-alloc may-handle may-made null =
+      enter ! C Λ code.function (global_val alloc ∷ ptr_val handle ∷ ptr_val made ∷ []) _ $ alloc_all ! (λ c. pass_all ! refl (fits-alloc.0, ((good 𝓛 handle).0, ((good 𝓛 made).0, tt))) $
+      tested ! handle none (get ! refl) may-handle refl (tt, tt) refl refl (tt, record { fits = lit< tt }) refl (λ _. free_all ! refl $ unchanged ! (handle ∷ made ∷ []) _ null (ends alloc handle made (vint w32 1) 1)) (λ here-0.
+      tested ! made (there_is _) (get ! refl) may-made refl (tt, tt) refl refl (tt, record { fits = lit< tt }) refl (λ _. free_all ! refl $ unchanged ! (handle ∷ made ∷ []) _ null (ends alloc handle made (vint w32 1) 1)) (λ here-1.
+      absurd (in_rest made [] (in_rest handle (made ∷ []) null here-0) here-1))))
+
+  runs : (alloc : Global) (handle : Ptr) (made : Ptr) → Typed GlobalRow.mir (global_val alloc ∷ []) → Testable handle → Testable made → Walk alloc handle made
+  runs alloc null_ptr made fits-alloc may-handle may-made = refused alloc null_ptr made fits-alloc may-handle may-made tt
+  runs alloc (block_ptr b0 o0) null_ptr fits-alloc may-handle may-made = refused alloc (block_ptr b0 o0) null_ptr fits-alloc may-handle may-made tt
+  runs alloc (block_ptr b0 o0) (block_ptr b1 o1) fits-alloc may-handle may-made =
+      move ! (1 ∷ []) $ fsplit ! $ move ! (1 ∷ []) $ enter ! C Λ code.function (global_val alloc ∷ vptr b0 o0 ∷ vptr b1 o1 ∷ []) _ $ alloc_all ! (λ c. pass_all ! refl (fits-alloc.0, ((good 𝓛 (block_ptr b0 o0)).0, ((good 𝓛 (block_ptr b1 o1)).0, tt))) $
+      stands ! b0 o0 none (get ! refl) may-handle refl (tt, tt) refl $
+      stands ! b1 o1 (there_is _) (get ! refl) may-made refl (tt, tt) refl $
+      closes ! $ inside ! _ _ _ $
+      sets ! (of_opd ! (get ! refl)) refl (tt, tt) $ sets ! (addr ! (through ! refl (stop !))) refl (tt, tt) $
+      sets ! (addr ! (through ! refl (stop !))) refl (tt, tt) $
+      nothing ! $ move ! (1 ∷ 0 ∷ []) $ fjoin ! $ move ! (1 ∷ 0 ∷ []) $ fjoin ! $ move ! (2 ∷ 0 ∷ []) $ fjoin ! $ nothing ! $ move ! (2 ∷ 0 ∷ []) $ join ! $ join ! $ nothing ! $ move ! (1 ∷ 0 ∷ []) $
+      let z : G.Ghost = (((l.lifetime, tt), (l.share, tt), tt, (alloc, (record { ref_ptr = (b0, o0); now = l.handle }, (record { ref_ptr = (b1, o1); ghost_name = l.made_name; now = l.made }, tt))), (global_val alloc ∷ [], (vptr b0 o0 ∷ [], (vptr b1 o1 ∷ [], tt)))), tt) in
+      use2 𝓛 (raw (G.pre z)) (id⊢ 𝓤 _) $ calls_at_last ! fm G known z (and_then ! (get ! refl) (and_then ! (get ! refl) (and_then ! (get ! refl) (no_more !)))) (λ v.
+      use1 𝓛 (back 𝓛 g.ended (g.clauses 𝓛 at_mem run) z.0.0 z.0.3 z.1 l.lifetime l.share v) (id⊢ 𝓤 _) $
+      await ! tt $ pick ! (λ x. split ! $ move ! (1 ∷ []) $ pick ! (λ ws. split ! $ move ! (1 ∷ []) $ heard ! (Shares l.handle ws.1.1.0 x) (λ reports.
+      fsplit ! $ drop ! $ fsplit ! $ drop ! $ fsplit ! $ move ! (1 ∷ []) $ drop ! $ move ! (1 ∷ []) $ split ! $ split ! $ move ! (2 ∷ []) $ peeks ! u32 (Is u32) (shows 𝓛 u32) x (v ∷ []) (λ is. let fine = ((uint_Lawful 𝓛 w32).typed x _ is).0 in
+      ends0 ! C Λ _ fine fine refl refl refl refl $ free_all ! refl $ keep ! (3 ∷ 0 ∷ 1 ∷ []) $
+      hold ! reports $ move ! (1 ∷ 0 ∷ []) $ fjoin ! $
+      fpack ! Owned (λ made'. fsep (left_made l (block_ptr b1 o1) made') (holds (Shares l.handle made' x))) ws.1.1.0 $ ends alloc (block_ptr b0 o0) (block_ptr b1 o1) v x))))))
+
+pub odfilter_share_spec : {M : Type 1} → statement M
+odfilter_share_spec 𝓤 𝓛 𝓜 𝓡 wired =
+    let c = f.clauses 𝓛 𝓜.mem 𝓡.returns in let 𝓣 = tables 𝓤 𝓛.H 𝓜 𝓡 𝓡.env in
+    proved 𝓛 f.ended stayed c 𝓜 𝓡 (Goes-dropped 𝓛 0 (plain (λ _. GlobalRow)) yes (λ κs x w. refl), (Goes-dropped 𝓛 0 (plain (λ _. RawPtr)) yes (λ κs x w. refl), (Goes-dropped 𝓛 0 (plain (λ _. RawPtr)) yes (λ κs x w. refl), tt)))
+    f.Key.name code.function (code.unfolded 𝓤 𝓛.H 𝓜 𝓡 wired)
+    (λ κs. ((λ g. global_val g ∷ []), (rawptr_vals, (rawptr_vals, tt)))) (λ κs. (global_lowers.val_is, (rawptr_Tells, (rawptr_Tells, tt)))) (λ κs qs bounds a l are.
+    qed 𝓛 ((‵ ftrue ⊛ ‵ (owns (types_at f.signature.params κs) a (global_val a.0 ∷ [], (rawptr_vals a.1.0, (rawptr_vals a.1.1.0, tt))))) ∷ (raw (fact 𝓤 (Testable a.1.0 × Testable a.1.1.0)) ⊛ (‵ (flft l.lifetime l.share) ⊛ ‵ (borrowed_by_share l a.1.0 a.1.1.0))) ∷ []) ∵
+    split ! $ drop ! $ fsplit ! $ move ! (1 ∷ []) $ drop ! $ move ! (1 ∷ []) $ split ! $ heard ! _ (λ may. split ! $
+    runs 𝓛 𝓜.mem 𝓡.returns 𝓣.C 𝓣.Λ (framed 𝓤 𝓛.H 𝓜 𝓣) (met 𝓤 𝓛 𝓜 𝓡 (code.calls-handle_calls::calls::share 𝓡.env wired)) l a.0 a.1.0 a.1.1.0 ((global_laws.lawful 𝓛).typed a.0 _ are.0) may.0 may.1))

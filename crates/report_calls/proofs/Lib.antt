@@ -1,0 +1,2 @@
+mod SqlSteps
+mod TypeSteps

@@ -1,0 +1,135 @@
+//! A filter as conditions of SQL.
+ghost use Rattle.handle_calls.specs.declared.call_fault.Fault.{Fault};
+ghost use Rattle.handle_calls.specs.declared.handle.Handle.{Handle};
+ghost use Rattle.std.specs.Prelude.{MatchResult, string_bytes, true, false};
+ghost use Rattle.odata_sql.specs.Refusals.{HasColumns};
+ghost use Rattle.sql_tree.specs.TableModel.{storage_in};
+ghost use Rattle.report_calls.specs.SqlCalls.{HasConditions};
+ghost use Rattle.report_calls.specs.SqlCalls.{IsNoConditions, IsNoNow, IsNoSql, IsNoTableSql, IsNowBy, IsSqlOf};
+ghost use Rattle.report_calls.specs.SqlCalls.{IsTableSql};
+
+use edm_values::{Moment, read_moment};
+use handle_calls::{Fault, Handle, moment_for};
+use odata_sql::{SqlFault, columns_suffice, conditions_json, translate};
+use odata_typing::Checked;
+use sql_tables::{are_known, columns_of, form_of, split_first_line};
+use sql_tree::{Dialect, Storage};
+use std::alloc::Global;
+
+/// The conditions of a filter as a text.
+fn conditions_text(
+    alloc: Global,
+    checked: &Checked<'_>,
+    storage: Storage<'_>,
+    dialect: Dialect,
+    now: &Moment,
+) -> Result<String, Fault>
+    requires { HasColumns checked.now.list.nodes (storage_in storage) }
+    ensures { MatchResult result (λ text. HasConditions checked.now (storage_in storage.entry) dialect now.now
+        (string_bytes text)) (IsNoConditions checked.now (storage_in storage.entry) dialect now.now) }
+{
+    match translate(alloc, checked, storage, dialect, now) {
+        Ok(found) => match conditions_json(alloc, &found, dialect) {
+            Ok(text) => Ok(text),
+            Err(_) => Err(Fault::Memory),
+        },
+        // `NoColumn` never comes: what the filter names has its column, as `requires` says.
+        Err(SqlFault::Nul) | Err(SqlFault::NoColumn) => Err(Fault::Unsayable),
+        Err(SqlFault::TooDeep) => Err(Fault::TooDeep),
+        Err(SqlFault::Memory) => Err(Fault::Memory),
+    }
+}
+
+/// The conditions where the row is one of JSON, in the column of that name or in `doc`.
+fn document_text(
+    alloc: Global,
+    checked: &Checked<'_>,
+    name: &str,
+    dialect: Dialect,
+    now: &Moment,
+) -> Result<String, Fault>
+    ensures { MatchResult result (λ text. IsTableSql checked.now dialect false name.now now.now (string_bytes text))
+        (IsNoTableSql checked.now dialect false name.now now.now) }
+{
+    if name.is_empty() {
+        return conditions_text(alloc, checked, Storage::Document("doc"), dialect, now);
+    }
+    conditions_text(alloc, checked, Storage::Document(name), dialect, now)
+}
+
+/// The conditions where each property has a column, by lines about those with another name.
+fn columns_text(
+    alloc: Global,
+    checked: &Checked<'_>,
+    lines: &str,
+    dialect: Dialect,
+    now: &Moment,
+) -> Result<String, Fault>
+    ensures { MatchResult result (λ text. IsTableSql checked.now dialect true lines.now now.now (string_bytes text))
+        (IsNoTableSql checked.now dialect true lines.now now.now) }
+{
+    let schema = checked.schema();
+    let id = checked.filtered_type();
+    if !are_known(schema, id, lines) {
+        return Err(Fault::UnknownColumn);
+    }
+    let Ok(columns) = columns_of(alloc, schema, id, lines) else {
+        return Err(Fault::Memory);
+    };
+    columns_suffice();
+    let _nodes = checked.nodes();
+    conditions_text(
+        alloc,
+        checked,
+        Storage::Columns(columns.as_slice()),
+        dialect,
+        now,
+    )
+}
+
+/// The moment of a line; where it is empty, any for a filter that does not ask for one.
+fn line_moment(checked: &Checked<'_>, line: &str) -> Result<Moment, Fault>
+    ensures { MatchResult result (IsNowBy checked.now line.now) (IsNoNow checked.now line.now) }
+{
+    if line.is_empty() {
+        return moment_for(checked, None);
+    }
+    match read_moment(line) {
+        Some(now) => Ok(now),
+        None => Err(Fault::NotAMoment),
+    }
+}
+
+/// The conditions of a filter, by a form and lines about the table.
+fn sql_text(alloc: Global, checked: &Checked<'_>, form: u32, how: &str) -> Result<String, Fault>
+    ensures { MatchResult result (λ text. IsSqlOf (Handle.Filter checked.now) form how.now (string_bytes text))
+        (IsNoSql (Handle.Filter checked.now) form how.now) }
+{
+    let Some((dialect, by_columns)) = form_of(form) else {
+        return Err(Fault::UnknownNumber);
+    };
+    let (line, names) = split_first_line(how);
+    let now = line_moment(checked, line)?;
+    if by_columns {
+        columns_text(alloc, checked, names, dialect, &now)
+    } else {
+        document_text(alloc, checked, names, dialect, &now)
+    }
+}
+
+/// The conditions of the filter that a handle is, by a form and the bytes of lines about the table.
+pub(crate) fn sql_of(alloc: Global, handle: &Handle, form: u32, how: &[u8]) -> Result<String, Fault>
+    ensures { MatchResult result (λ text. IsSqlOf handle.now form how.now (string_bytes text))
+        (IsNoSql handle.now form how.now) }
+{
+    match handle {
+        Handle::Filter(held) => match str::from_utf8(how) {
+            Ok(how) => {
+                let checked = held.checked();
+                sql_text(alloc, &checked, form, how)
+            }
+            Err(_) => Err(Fault::NotUtf8),
+        },
+        _ => Err(Fault::OtherKind),
+    }
+}
