@@ -10,7 +10,7 @@ static const odfilter_buffer no_room = {NULL, 0}, no_room_of_length = {NULL, 64}
 enum kind { SCHEMA, TYPE, FILTER_KIND, JUDGE, KINDS };
 static odfilter_handle *handles[KINDS];
 static char names[512];
-static const odfilter_buffer room = {names, sizeof names};
+static const odfilter_buffer room = {names, sizeof names}, shut = {names, 0};
 static odfilter_answer answer;
 
 /* a variable that held another handle: it is overwritten, and the handle is not freed */
@@ -34,6 +34,12 @@ static void is_null(const char *name, uint32_t status, int has_answer, odfilter_
     check(name, status == ODFILTER_NULL);
     check(name, !has_answer || is_answer(answer, unwritten()));
     check(name, !at || *at == handles[TYPE]);
+}
+
+/* a buffer at no address asks for the length, as one of no length does at any other */
+static void asks_for_length(const char *name, uint32_t at_null, uint32_t at_address, odfilter_answer wanted)
+{
+    check(name, at_null == at_address && is_answer(answer, wanted));
 }
 
 static void nulls_that_make_handles(void)
@@ -83,24 +89,42 @@ static void nulls_of_texts(void)
 {
     uint32_t (*const calls[])(const odfilter_handle *, odfilter_buffer,
                               odfilter_answer *) = {odfilter_canonical, odfilter_explain, odfilter_path,
-                                                    odfilter_property_paths};
+                                                    odfilter_property_paths, odfilter_types};
+    static const int kinds[] = {FILTER_KIND, FILTER_KIND, JUDGE, FILTER_KIND, SCHEMA};
+    odfilter_answer wanted;
+    uint32_t status;
     size_t number;
-    for (number = 0; number < 4; number++) {
-        odfilter_handle *handle = handles[number == 2 ? JUDGE : FILTER_KIND];
+    for (number = 0; number < 5; number++) {
+        odfilter_handle *handle = handles[kinds[number]];
+        status = calls[number](handle, shut, &wanted);
+        asks_for_length("text: no buffer", calls[number](handle, no_room, fresh()), status, wanted);
         is_null("text: no handle", calls[number](NULL, room, fresh()), 1, NULL);
-        is_null("text: no buffer", calls[number](handle, no_room, fresh()), 1, NULL);
         is_null("text: no buffer of a length", calls[number](handle, no_room_of_length, fresh()), 1, NULL);
         is_null("text: no answer", calls[number](handle, room, NULL), 0, NULL);
     }
     is_null("sql: no filter", odfilter_sql(NULL, 0, no_bytes, room, fresh()), 1, NULL);
     is_null("sql: no lines of a length", odfilter_sql(handles[FILTER_KIND], 0, no_bytes_of_length, room, fresh()), 1, NULL);
-    is_null("sql: no buffer", odfilter_sql(handles[FILTER_KIND], 0, no_bytes, no_room, fresh()), 1, NULL);
+    is_null("sql: no buffer of a length", odfilter_sql(handles[FILTER_KIND], 0, no_bytes, no_room_of_length, fresh()), 1,
+            NULL);
+    status = odfilter_sql(handles[FILTER_KIND], 0, no_bytes, shut, &wanted);
+    check("sql: the length of conditions", status == ODFILTER_TOO_SMALL && wanted.length > 0);
+    asks_for_length("sql: no buffer", odfilter_sql(handles[FILTER_KIND], 0, no_bytes, no_room, fresh()), status, wanted);
+    is_null("sql: neither lines of a length nor a buffer",
+            odfilter_sql(handles[FILTER_KIND], 0, no_bytes_of_length, no_room, fresh()), 1, NULL);
     is_null("sql: no answer", odfilter_sql(handles[FILTER_KIND], 0, no_bytes, room, NULL), 0, NULL);
-    is_null("version: no buffer", odfilter_version(no_room, fresh()), 1, NULL);
+    is_null("version: no buffer of a length", odfilter_version(no_room_of_length, fresh()), 1, NULL);
+    status = odfilter_version(shut, &wanted);
+    asks_for_length("version: no buffer", odfilter_version(no_room, fresh()), status, wanted);
     is_null("version: no answer", odfilter_version(room, NULL), 0, NULL);
-    is_null("status_name: no buffer", odfilter_status_name(1, no_room, fresh()), 1, NULL);
+    is_null("status_name: no buffer of a length", odfilter_status_name(1, no_room_of_length, fresh()), 1, NULL);
+    status = odfilter_status_name(1, shut, &wanted);
+    asks_for_length("status_name: no buffer", odfilter_status_name(1, no_room, fresh()), status, wanted);
     is_null("status_name: no answer", odfilter_status_name(1, room, NULL), 0, NULL);
-    is_null("fault_name: no buffer", odfilter_fault_name(ODFILTER_EVAL_FAULT, 1, no_room, fresh()), 1, NULL);
+    is_null("fault_name: no buffer of a length",
+            odfilter_fault_name(ODFILTER_EVAL_FAULT, 1, no_room_of_length, fresh()), 1, NULL);
+    status = odfilter_fault_name(ODFILTER_EVAL_FAULT, 1, shut, &wanted);
+    asks_for_length("fault_name: no buffer", odfilter_fault_name(ODFILTER_EVAL_FAULT, 1, no_room, fresh()), status,
+                    wanted);
     is_null("fault_name: no answer", odfilter_fault_name(ODFILTER_EVAL_FAULT, 1, room, NULL), 0, NULL);
     is_null("node_count: no filter", odfilter_node_count(NULL, fresh()), 1, NULL);
     is_null("node_count: no answer", odfilter_node_count(handles[FILTER_KIND], NULL), 0, NULL);
@@ -108,6 +132,29 @@ static void nulls_of_texts(void)
     is_null("lambda_depth: no answer", odfilter_lambda_depth(handles[FILTER_KIND], NULL), 0, NULL);
     is_null("needs_moment: no filter", odfilter_needs_moment(NULL, fresh()), 1, NULL);
     is_null("needs_moment: no answer", odfilter_needs_moment(handles[FILTER_KIND], NULL), 0, NULL);
+}
+
+typedef uint32_t fault_call(const odfilter_handle *, uint32_t, odfilter_bytes, odfilter_buffer, const odfilter_answer *,
+                            odfilter_answer *);
+
+/* with a type and without, with a text and with an empty one at no address */
+static void nulls_of_faults(fault_call *call, odfilter_bytes text)
+{
+    odfilter_answer fault = {0}, wanted;
+    int number;
+    fault.fault = ODFILTER_SYNTAX_UNEXPECTED;
+    for (number = 0; number < 4; number++) {
+        odfilter_handle *of_type = number & 1 ? handles[TYPE] : NULL;
+        odfilter_bytes about = number & 2 ? text : no_bytes;
+        uint32_t status = call(of_type, ODFILTER_SYNTAX_FAULT, about, shut, &fault, &wanted);
+        check("the length of what is said", status == ODFILTER_TOO_SMALL && wanted.length > 0);
+        status = call(of_type, ODFILTER_SYNTAX_FAULT, about, no_room, &fault, fresh());
+        asks_for_length("a fault: no buffer", status, ODFILTER_TOO_SMALL, wanted);
+        status = call(of_type, ODFILTER_SYNTAX_FAULT, about, no_room_of_length, &fault, fresh());
+        is_null("a fault: no buffer of a length", status, 1, NULL);
+        status = call(of_type, ODFILTER_SYNTAX_FAULT, no_bytes_of_length, no_room, &fault, fresh());
+        is_null("a fault: neither text of a length nor buffer", status, 1, NULL);
+    }
 }
 
 static void nulls_of_urls(void)
@@ -129,8 +176,15 @@ static void nulls_of_urls(void)
             odfilter_fault_text(handles[TYPE], 19, no_bytes_of_length, room, &fault, fresh()), 1, NULL);
     is_null("fault_text: no text of a length, no type",
             odfilter_fault_text(NULL, 19, no_bytes_of_length, room, &fault, fresh()), 1, NULL);
-    is_null("fault_text: no buffer", odfilter_fault_text(NULL, 19, query, no_room, &fault, fresh()), 1, NULL);
+    nulls_of_faults(odfilter_fault_text, query);
     is_null("fault_text: no answer", odfilter_fault_text(NULL, 19, query, room, &fault, NULL), 0, NULL);
+    is_null("fault_json: no fault", odfilter_fault_json(handles[TYPE], 19, query, room, NULL, fresh()), 1, NULL);
+    is_null("fault_json: no text of a length",
+            odfilter_fault_json(handles[TYPE], 19, no_bytes_of_length, room, &fault, fresh()), 1, NULL);
+    is_null("fault_json: no text of a length, no type",
+            odfilter_fault_json(NULL, 19, no_bytes_of_length, room, &fault, fresh()), 1, NULL);
+    nulls_of_faults(odfilter_fault_json, query);
+    is_null("fault_json: no answer", odfilter_fault_json(NULL, 19, query, room, &fault, NULL), 0, NULL);
     drop(query);
 }
 
@@ -186,11 +240,15 @@ static void other_kinds(void)
               kind == TYPE || (odfilter_check_url(other, text, room, at, fresh()) == status && !*at));
         check("fault_text: no type",
               kind == TYPE || odfilter_fault_text(other, 18, text, room, &syntax, fresh()) == status);
+        check("fault_json: no type",
+              kind == TYPE || odfilter_fault_json(other, 18, text, room, &syntax, fresh()) == status);
         check("node_count: no filter", kind == FILTER_KIND || odfilter_node_count(other, fresh()) == status);
         check("lambda_depth: no filter", kind == FILTER_KIND || odfilter_lambda_depth(other, fresh()) == status);
         check("property_paths: no filter",
               kind == FILTER_KIND || odfilter_property_paths(other, room, fresh()) == status);
         check("sql: no filter", kind == FILTER_KIND || odfilter_sql(other, 0, text, room, fresh()) == status);
+        check("types: no schema and no type",
+              kind == SCHEMA || kind == TYPE || odfilter_types(other, room, fresh()) == status);
         check("canonical: no filter", kind == FILTER_KIND || odfilter_canonical(other, room, fresh()) == status);
         check("explain: no filter", kind == FILTER_KIND || odfilter_explain(other, room, fresh()) == status);
         check("needs_moment: no filter", kind == FILTER_KIND || odfilter_needs_moment(other, fresh()) == status);
@@ -248,6 +306,8 @@ static void empty_texts(odfilter_bytes empty)
     wanted.fault = ODFILTER_EVAL_OVERFLOW;
     check("a sentence about an empty text",
           odfilter_fault_text(handles[TYPE], ODFILTER_EVAL_FAULT, empty, room, &wanted, fresh()) == ODFILTER_OK);
+    check("an object about an empty text",
+          odfilter_fault_json(handles[TYPE], ODFILTER_EVAL_FAULT, empty, room, &wanted, fresh()) == ODFILTER_OK);
     odfilter_free(&own);
     free(kept.at);
 }

@@ -65,6 +65,11 @@ static uint32_t call_explain(void)
     return odfilter_explain(filter, room, &answer);
 }
 
+static uint32_t call_types(void)
+{
+    return odfilter_types(schema, room, &answer);
+}
+
 /* where the filter was found before memory ran out, it is reported */
 static uint32_t call_check_url(void)
 {
@@ -94,6 +99,14 @@ static uint32_t call_fault_text(void)
     fault.fault = ODFILTER_TYPE_UNKNOWN_PROPERTY;
     fault.stop = 3;
     return odfilter_fault_text(type, ODFILTER_TYPE_FAULT, text, room, &fault, &answer);
+}
+
+static uint32_t call_fault_json(void)
+{
+    odfilter_answer fault = {0};
+    fault.fault = ODFILTER_TYPE_UNKNOWN_PROPERTY;
+    fault.stop = 3;
+    return odfilter_fault_json(type, ODFILTER_TYPE_FAULT, text, room, &fault, &answer);
 }
 
 static uint32_t call_new_judge(void)
@@ -295,7 +308,9 @@ int main(void)
     refuse_each("property_paths", call_property_paths, NULL);
     refuse_each("sql", call_sql, NULL);
     refuse_each("fault_text", call_fault_text, NULL);
+    refuse_each("fault_json", call_fault_json, NULL);
     refuse_each("canonical", call_canonical, NULL);
+    refuse_each("types", call_types, NULL);
     refuse_each("explain", call_explain, NULL);
     refuse_each("new_judge", call_new_judge, is_judge);
     refuse_each("new_judge_of", call_new_judge_of, is_own_judge);

@@ -68,6 +68,7 @@ _COUNT = ctypes.c_uint64
 # the calls of odfilter.h, without odfilter_: what each is given
 _CALLS: dict[str, list[Any]] = {
     "read_schema": [_Bytes, _Buffer, _PLACE, _ANSWER],
+    "types": [_HANDLE, _Buffer, _ANSWER],
     "find_type": [_HANDLE, _Bytes, _PLACE],
     "check": [_HANDLE, _Bytes, _PLACE, _ANSWER],
     "check_query": [_HANDLE, _Bytes, _PLACE, _ANSWER],
@@ -87,11 +88,14 @@ _CALLS: dict[str, list[Any]] = {
     "judge_next": [_HANDLE, _Bytes, _ANSWER],
     "filter_lines": [_HANDLE, _HANDLE, _Bytes, _Buffer, _ANSWER],
     "path": [_HANDLE, _Buffer, _ANSWER],
+    "share": [_HANDLE, _PLACE],
     "free": [_PLACE],
+    "fits": [_COUNT],
     "version": [_Buffer, _ANSWER],
     "status_name": [_NUMBER, _Buffer, _ANSWER],
     "fault_name": [_NUMBER, _NUMBER, _Buffer, _ANSWER],
     "fault_text": [_HANDLE, _NUMBER, _Bytes, _Buffer, _ANSWER, _ANSWER],
+    "fault_json": [_HANDLE, _NUMBER, _Bytes, _Buffer, _ANSWER, _ANSWER],
 }
 
 
@@ -107,6 +111,8 @@ class Library:
             raise LibraryNotFound(f"no library odfilter at {self.path}: {fault}") from fault
         for name, given in _CALLS.items():
             self._calls[name].argtypes, self._calls[name].restype = given, _NUMBER
+        if self._calls["fits"](ctypes.sizeof(_Answer)) != OK:
+            raise LibraryNotFound(f"the library at {self.path} is newer than this module: its answers are longer")
         self._free = self._calls["free"]
         self._fault = functools.lru_cache(maxsize=None)(self._fault_name)
 
@@ -145,14 +151,17 @@ class Library:
             size = answer.length
 
     def _fault_name(self, status: int, fault: int) -> str:
-        if status in (JSON_FAULT, LINE_TOO_LONG):
-            return "Json" if status == JSON_FAULT else "LineTooLong"
         return self._text("fault_name", status, fault)
 
     def _worded(self, error: _AnError, status: int, answer: _Answer, about: BytesOrText, of: Any = None) -> _AnError:
-        """An error with its sentence: `about` is the text at fault, `of` the handle of the type, where there is one."""
+        """An error with its sentence and its object.
+
+        `about` is the text at fault, `of` the handle of the type, where there is one.
+        """
         borrowed = _borrowed(about, "a text")
-        error.sentence = self._text("fault_text", of, status, borrowed, about=(ctypes.byref(answer),))
+        given = of, status, borrowed
+        error.sentence = self._text("fault_text", *given, about=(ctypes.byref(answer),))
+        error._object = self._text("fault_json", *given, about=(ctypes.byref(answer),))
         return error
 
 

@@ -1,0 +1,8 @@
+use Rattle.std.proofs.Common.{Ok, Err, refl}
+use Rattle.report_calls.proofs.calls.fault_json.Goals as goal
+
+pub returns-in-Ok : goal.returns-in-Ok
+returns-in-Ok c = record { outcome = Ok c.as_bytes.result.now; right = c.in-Ok.ensures; writes = c.report_bytes.ensures }
+
+pub returns-in-Err : goal.returns-in-Err
+returns-in-Err c = record { outcome = Err c.in-Err.fault; right = c.in-Err.ensures; writes = (refl, c.report_fault.ensures) }
