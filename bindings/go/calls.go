@@ -120,6 +120,16 @@ func address(of []byte) (*C.char, C.size_t) {
 	return (*C.char)(unsafe.Pointer(&of[0])), C.size_t(len(of))
 }
 
+// A library that is newer than the header that this package was built by may write longer answers.
+func init() {
+	if !fits(unsafe.Sizeof(answer{})) {
+		panic("odfilter: the library is newer than the header of this package: its answers are longer")
+	}
+}
+
+// fits returns whether an answer of so many bytes has all that the library writes.
+func fits(size uintptr) bool { return status(C.odfilter_fits(C.uint64_t(size))) == statusOK }
+
 func readSchema(document, names []byte, schema *handle, a *answer) status {
 	from, size := address(document)
 	to, most := address(names)

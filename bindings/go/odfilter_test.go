@@ -11,6 +11,7 @@ import (
 	"sync"
 	"testing"
 	"time"
+	"unsafe"
 )
 
 const document = `{"$Version":"4.01","Mini":{"Item":{"$Kind":"EntityType","ID":{"$Type":"Edm.Int64"},
@@ -181,6 +182,12 @@ func TestSQL(t *testing.T) {
 	}
 	if _, err := now.SQL(SQLite, SQLOptions{}); !errors.Is(err, ErrMomentNeeded) {
 		t.Error(err)
+	}
+}
+
+func TestAnswersFit(t *testing.T) {
+	if size := unsafe.Sizeof(answer{}); !fits(size) || fits(size-1) {
+		t.Error(size)
 	}
 }
 

@@ -44,6 +44,15 @@ namespace Odfilter
     internal static class Native
     {{
         private const string Library = "odfilter";
+
+        /// <summary>Refuses a library that writes longer answers than these classes read.</summary>
+        static unsafe Native()
+        {{
+            if (odfilter_fits((ulong)sizeof(Answer)) != Status.Ok)
+            {{
+                throw new DllNotFoundException("The library is newer than these classes: its answers are longer.");
+            }}
+        }}
 {calls}    }}
 }}
 """

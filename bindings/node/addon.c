@@ -490,7 +490,9 @@ NAPI_MODULE_INIT()
         {"faultName", NULL, fault_name, NULL, NULL, NULL, napi_enumerable, NULL},
         {"faultText", NULL, fault_text, NULL, NULL, NULL, napi_enumerable, NULL},
     };
-    if (napi_define_properties(env, exports, sizeof calls / sizeof *calls, calls) != napi_ok)
+    if (odfilter_fits(sizeof(odfilter_answer)) != ODFILTER_OK)
+        napi_throw_error(env, NULL, "odfilter: the library is newer than this addon: its answers are longer");
+    else if (napi_define_properties(env, exports, sizeof calls / sizeof *calls, calls) != napi_ok)
         napi_throw_error(env, NULL, "odfilter: the addon cannot be set up");
     return exports;
 }

@@ -1,7 +1,16 @@
 //! Handles, and the calls that borrow bytes and write texts.
 use crate::error::{plain, Error, Result};
 use odfilter_sys as c;
-use std::ptr;
+use std::{mem, ptr};
+
+/// Refuses a library that writes longer answers than this crate reads.
+pub(crate) fn require_fit() -> Result<()> {
+    // SAFETY: the call takes a number.
+    match unsafe { c::odfilter_fits(mem::size_of::<c::odfilter_answer>() as u64) } {
+        c::ODFILTER_OK => Ok(()),
+        status => Err(plain(status)),
+    }
+}
 
 /// A handle of the library, freed when it is dropped. It is not said of which kind it is.
 #[derive(Debug)]

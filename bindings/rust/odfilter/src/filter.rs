@@ -1,5 +1,5 @@
 //! Schemas, entity types and filters.
-use crate::calls::{buffer, bytes, code_of, message_of, text, Handle};
+use crate::calls::{buffer, bytes, code_of, message_of, require_fit, text, Handle};
 use crate::error::{plain, Error, Kind, QueryRefusal, Refusal, Result, SchemaFault};
 use odfilter_sys as c;
 use std::ops::Range;
@@ -12,6 +12,7 @@ pub struct Schema(Arc<Handle>);
 impl Schema {
     /// Reads a CSDL JSON 4.01 document.
     pub fn read(document: impl AsRef<[u8]>) -> Result<Schema> {
+        require_fit()?;
         let document = document.as_ref();
         let mut names = vec![0; 256];
         let mut answer = c::odfilter_answer::default();

@@ -44,5 +44,6 @@ pub use sql::{Conditions, Dialect, Parameter, Rows, Statement};
 
 /// The version of the C library.
 pub fn version() -> Result<String> {
+    calls::require_fit()?;
     calls::text(|to, answer| unsafe { odfilter_sys::odfilter_version(to, answer) })
 }

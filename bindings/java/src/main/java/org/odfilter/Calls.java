@@ -11,7 +11,15 @@ import com.sun.jna.Pointer;
 final class Calls {
     private static final ThreadLocal<Scratch> SCRATCH = ThreadLocal.withInitial(Scratch::new);
 
+    static {
+        Loader.requireFit(fits(Answer.SIZE));
+    }
+
     private Calls() {
+    }
+
+    static int fits(long answerSize) {
+        return Library.odfilter_fits(answerSize);
     }
 
     /** The memory of one thread's calls: what is borrowed, what is written, a handle and two answers. */

@@ -22,6 +22,13 @@ final class Loader {
         return named != null ? named : copied("/native/" + platform() + "/" + NAME);
     }
 
+    /** Refuses a library that writes longer answers than these classes read. */
+    static void requireFit(int status) {
+        if (status != Numbers.OK) {
+            throw new UnsatisfiedLinkError("odfilter: the library is newer than these classes: its answers are longer");
+        }
+    }
+
     /** The platform as in linux-x86-64. */
     private static String platform() {
         String machine = System.getProperty("os.arch");

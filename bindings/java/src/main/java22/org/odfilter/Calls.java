@@ -14,7 +14,19 @@ import java.lang.foreign.MemorySegment;
 final class Calls {
     private static final ThreadLocal<Scratch> SCRATCH = ThreadLocal.withInitial(Scratch::new);
 
+    static {
+        Loader.requireFit(fits(Answer.SIZE));
+    }
+
     private Calls() {
+    }
+
+    static int fits(long answerSize) {
+        try {
+            return (int) Library.FITS.invokeExact(answerSize);
+        } catch (Throwable error) {
+            throw unexpected(error);
+        }
     }
 
     /** The memory of one thread's calls: what is borrowed, what is written, a handle and two answers. */

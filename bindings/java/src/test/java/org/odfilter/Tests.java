@@ -48,6 +48,7 @@ final class Tests {
         that("explanation", filter.explanation().contains("Edm.Boolean"), filter.explanation());
         String longText = "ID eq 1 or ".repeat(200) + "Active";
         equal("a long text", item().check(longText).canonical(), longText);
+        equal("a shorter answer", Calls.fits(Answer.SIZE - 1), Numbers.TOO_SMALL);
         that("version", Schema.version().matches("\\d+\\.\\d+\\.\\d+"), Schema.version());
         Filter found = item().checkUrl("$top=5&$filter=ID%20eq%201").orElseThrow();
         equal("of a URL", List.of(found.text(), found.piece(), found.value()),
