@@ -1,13 +1,20 @@
 """The errors of the module: what each has, and the line that the program prints for it."""
 from __future__ import annotations
 
-from typing import Optional
+import json
+from typing import Any, Optional
 
 
 class Error(Exception):
     """What this module raises. Its text is a sentence, where the library has one, else the program's line."""
 
     sentence = ""
+    _object = ""
+
+    def as_dict(self) -> dict[str, Any]:
+        """The object that the program writes of it by `--format json`, and an empty one where it writes none."""
+        whole: dict[str, Any] = json.loads(self._object) if self._object else {}
+        return whole
 
     @property
     def program_line(self) -> str:
