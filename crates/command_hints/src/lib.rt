@@ -11,9 +11,9 @@
 #![tactic(auto)]
 
 mod accepted_object;
-mod entity_names;
 mod failed_run;
 mod failure_report;
+mod file_form;
 mod json_place;
 mod marked_text;
 mod near_types;

@@ -1,9 +1,24 @@
 //! What to say of a name of no entity type.
-use crate::entity_names::entity_names;
+use serde_json::Value;
 use std::alloc::{AllocError, Global};
+use type_listing::type_names;
 
 /// At most so many types are listed.
 const LISTED: usize = 8;
+
+/// The entity types of a document.
+fn entity_types(alloc: Global, document: &[u8]) -> Result<Vec<String>, AllocError> {
+    let mut names = Vec::new(alloc);
+    let Ok(document) = Value::from_slice(alloc, document) else {
+        return Ok(names);
+    };
+    for it in type_names(alloc, &document)?.as_slice() {
+        if it.is_entity {
+            names.push(String::from_str(alloc, it.name.as_str())?)?;
+        }
+    }
+    Ok(names)
+}
 
 /// The name after its namespace.
 fn last_part(name: &str) -> &str {
@@ -42,7 +57,7 @@ pub fn type_advice(
     document: &[u8],
     name: &str,
 ) -> Result<Option<String>, AllocError> {
-    let names = entity_names(alloc, document)?;
+    let names = entity_types(alloc, document)?;
     if names.is_empty() {
         return Ok(None);
     }

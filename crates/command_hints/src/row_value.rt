@@ -1,8 +1,8 @@
 //! The value of a row at a path, and the type that is wanted there.
 use csdl_schema::{Property, PropertyKind, Schema, TypeId};
-use edm_values::Prim;
 use serde_json::Value;
 use std::alloc::{AllocError, Global};
+use type_listing::property_type_name;
 
 /// At most so many bytes of a value are shown.
 const SHOWN_BYTES: usize = 60;
@@ -40,32 +40,6 @@ pub fn shown_value(alloc: Global, row: &[u8], path: &str) -> Result<Option<Strin
         .get(..text.floor_char_boundary(SHOWN_BYTES))
         .unwrap_or("");
     Ok(Some(format!(in alloc; "{shown}..")?))
-}
-
-fn primitive_name(prim: Prim) -> &'static str {
-    match prim {
-        Prim::Bool => "Edm.Boolean",
-        Prim::Byte => "Edm.Byte",
-        Prim::SByte => "Edm.SByte",
-        Prim::Int16 => "Edm.Int16",
-        Prim::Int32 => "Edm.Int32",
-        Prim::Int64 => "Edm.Int64",
-        Prim::String => "Edm.String",
-        Prim::Date => "Edm.Date",
-        Prim::DateTimeOffset => "Edm.DateTimeOffset",
-        Prim::Guid => "Edm.Guid",
-    }
-}
-
-/// The type of a property's value, or of one of its items.
-fn kind_name<'s>(schema: &'s Schema, property: &Property) -> Option<&'s str> {
-    match property.kind {
-        PropertyKind::Prim(prim) => Some(primitive_name(prim)),
-        PropertyKind::Enum(id) => schema.enum_name(id),
-        PropertyKind::Complex(id) => schema.type_name(id),
-        PropertyKind::Navigation => schema.type_name(property.target()?),
-        PropertyKind::Opaque => None,
-    }
 }
 
 /// The type that a property leads to.
@@ -106,7 +80,7 @@ pub fn wanted_type(
     let Some((property, is_item)) = property_at(schema, id, path) else {
         return Ok(None);
     };
-    let Some(name) = kind_name(schema, property) else {
+    let Some(name) = property_type_name(schema, property) else {
         return Ok(None);
     };
     if property.many && !is_item {

@@ -3,3 +3,4 @@ pub mod Entered
 pub mod FlagLemmas
 pub mod PlanLemmas
 pub mod ReportsWorked
+pub mod TypesWorked

@@ -44,8 +44,8 @@ verb_app word = formed_app (with_rule (with_rule (with_rule (with_rule (new_app 
     (text_rule (codes "schema") true)) (text_rule (codes "type") true))
     (text_rule (codes "filter") false)) (text_rule (codes "query") false))
 
--- the subcommands: `check`, `explain`, and `filter`, which may name its rows, say what stands for now, say that the rows
--- are a collection, and what becomes of those at fault
+-- the subcommands of verbs: `check`, `explain`, and `filter`, which may name its rows, say what stands for now, say that
+-- the rows are a collection and that its entities are written, and what becomes of those at fault
 abbrev pub check_app : App
 check_app = verb_app (codes "check")
 
@@ -53,8 +53,13 @@ abbrev pub explain_app : App
 explain_app = verb_app (codes "explain")
 
 abbrev pub filter_app : App
-filter_app = counting_app (with_rule (with_rule (with_rule (verb_app (codes "filter"))
+filter_app = counting_app (with_rule (with_rule (with_rule (with_rule (verb_app (codes "filter"))
     (repeated_rule (codes "rows"))) (text_rule (codes "now") false)) (flag_rule (codes "collection")))
+    (flag_rule (codes "items")))
+
+-- the subcommand `types`, which has a schema and no filter
+abbrev pub types_app : App
+types_app = formed_app (with_rule (new_app (codes "types")) (text_rule (codes "schema") true))
 
 -- the subcommand of a verb, a row a verb
 abbrev pub app_of_verb : Verb → App
@@ -77,9 +82,9 @@ rowless_app =
     (with_subcommand (with_required_subcommand (with_version (new_app (codes "odfilter")))) check_app.top)
     explain_app.top
 
--- and with the one that does
+-- and with the one that does, and `types`
 abbrev pub odfilter_app : App
-odfilter_app = with_subcommand rowless_app filter_app.top
+odfilter_app = with_subcommand (with_subcommand rowless_app filter_app.top) types_app.top
 
 -- `clap` takes the words: no step of its reading fails
 abbrev pub IsTaken : List Text → Type 0
@@ -102,6 +107,20 @@ matches_if_verb (Some entered) =
 -- what the words say after their verb, option by option
 abbrev pub verb_matches : List Text → List Row
 verb_matches words = matches_if_verb (subcommand_of odfilter_app words)
+
+-- the matches of the subcommand that was entered, option by option, if it is the one of that name
+abbrev pub matches_if : Text → Option (Text × List Row) → List Row
+matches_if word None = []
+matches_if word (Some entered) = if bytes_eq entered.0 word then entered.1 else []
+
+-- what the words say after `types`, option by option
+abbrev pub types_matches : List Text → List Row
+types_matches words = matches_if (codes "types") (subcommand_of odfilter_app words)
+
+-- `clap` takes the words, and they enter `types`
+pub record AskForTypes (words : List Text) : Type 0 where
+  pub is_taken : IsTaken words
+  pub enter : option_map (λ entered. entered.0) (subcommand_of odfilter_app words) ≡ Some (codes "types")
 
 -- the words enter the subcommand of the verb
 abbrev pub Enters : List Text → Verb → Type 0

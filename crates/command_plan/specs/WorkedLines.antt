@@ -76,6 +76,20 @@ with_reports = whole ++ codes "--hints=never" ∷ codes "--format" ∷ codes "js
 abbrev pub with_more_rows : List Text
 with_more_rows = whole ++ codes "--rows" ∷ codes "q" ∷ codes "--count" ∷ codes "--skip-faulty" ∷ []
 
+-- with a collection whose entities are written
+abbrev pub with_items : List Text
+with_items = with_collection ++ codes "--items" ∷ []
+
 -- `check` with how it reports
 abbrev pub check_with_hints : List Text
 check_with_hints = whole_check ++ codes "--hints" ∷ codes "later" ∷ []
+
+-- `odfilter types`, with a schema, and with a filter too
+abbrev pub types_alone : List Text
+types_alone = codes "odfilter" ∷ codes "types" ∷ []
+
+abbrev pub whole_types : List Text
+whole_types = types_alone ++ codes "--schema" ∷ codes "s" ∷ codes "--format=json" ∷ []
+
+abbrev pub types_with_filter : List Text
+types_with_filter = whole_types ++ codes "--filter=true" ∷ []

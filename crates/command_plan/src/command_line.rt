@@ -40,9 +40,18 @@ pub enum Format {
     Json,
 }
 
+/// What a command line asks for.
+#[derive(Debug, Drop)]
+pub enum Request<'a> {
+    /// That a plan is carried out.
+    Run(RunRequest<'a>),
+    /// That the types of a schema are listed.
+    Types(TypesRequest<'a>),
+}
+
 /// A plan, and how a run of it reports.
 #[derive(Debug, Drop)]
-pub struct Request<'a> {
+pub struct RunRequest<'a> {
     pub plan: Plan<'a>,
     pub hints: Hints,
     pub format: Format,
@@ -52,6 +61,17 @@ pub struct Request<'a> {
     pub count: bool,
     /// Whether rows at fault are passed over.
     pub skip_faulty: bool,
+    /// Whether the kept entities of a collection are written, instead of their indexes.
+    pub items: bool,
+}
+
+/// A schema whose types are listed, and how.
+#[derive(Debug, Drop)]
+pub struct TypesRequest<'a> {
+    /// The name of its file.
+    pub schema: &'a str,
+    pub hints: Hints,
+    pub format: Format,
 }
 
 /// Why a command line has no plan. `Clap`'s text ends with a line feed, the others have none.
@@ -60,7 +80,7 @@ pub enum PlanFault {
     /// `clap` refuses the words, or was asked for its help or the version, which is its text then.
     #[error(transparent)]
     Clap(clap::Error),
-    /// Not exactly one of filter and query is given.
+    /// Not exactly one of filter and query is given, or the subcommand has neither.
     #[error("give one of filter and query")]
     OneOf,
     /// An allocation failed.
@@ -82,4 +102,7 @@ pub enum RequestFault {
     /// The rows are a collection, and are to be counted or passed over as lines are.
     #[error("count and skip-faulty are for lines, not for a collection")]
     Collection,
+    /// The entities of a collection are to be written, and the rows are none.
+    #[error("items is for a collection")]
+    Items,
 }

@@ -2,7 +2,8 @@
 ghost use Rattle.std.specs.Prelude.{◌≡◌, ◌∷◌, [], None, false, true, Some, codes};
 ghost use Rattle.clap.specs.Words.{all_of, fault_of, first_of};
 ghost use Rattle.clap.specs.declared.error.kind.ErrorKind.TheVariants as kind;
-ghost use Rattle.command_plan.specs.CommandLine.{Enters, GivesNotOne, IsTaken, is_flag_set, verb_matches, odfilter_app};
+ghost use Rattle.command_plan.specs.CommandLine.{AskForTypes, Enters, GivesNotOne, IsTaken, is_flag_set, odfilter_app};
+ghost use Rattle.command_plan.specs.CommandLine.{types_matches, verb_matches};
 ghost use Rattle.command_plan.specs.Requests.{format_asked, hints_asked};
 ghost use Rattle.command_plan.specs.declared.command_line.Format.{Format};
 ghost use Rattle.command_plan.specs.declared.command_line.Hints.{Hints};
@@ -48,7 +49,8 @@ pub fn lines_by_example()
 
 /// Worked command lines with options of reports and of rows. A line with `--hints` and `--format` is taken with their
 /// values, one with a second `--rows` with both files and the first as the plan's, and with `--count` and
-/// `--skip-faulty` with these. `check` takes any word after `--hints`, of which no hints are asked.
+/// `--skip-faulty` with these. A collection's entities are written where `--items` is given, and only there. `check` takes
+/// any word after `--hints`, of which no hints are asked.
 pub fn reports_by_example()
     ensures taken { IsTaken worked.with_reports }
     ensures hints { hints_asked (first_of (codes "hints") (verb_matches worked.with_reports)) ≡ Some Hints.Never }
@@ -59,6 +61,20 @@ pub fn reports_by_example()
     ensures first_rows { first_of (codes "rows") (verb_matches worked.with_more_rows) ≡ Some (codes "r") }
     ensures count { is_flag_set Verb.Filter (codes "count") (verb_matches worked.with_more_rows) ≡ true }
     ensures skip { is_flag_set Verb.Filter (codes "skip-faulty") (verb_matches worked.with_more_rows) ≡ true }
+    ensures items_taken { IsTaken worked.with_items }
+    ensures items { is_flag_set Verb.Filter (codes "items") (verb_matches worked.with_items) ≡ true }
+    ensures no_items { is_flag_set Verb.Filter (codes "items") (verb_matches worked.with_collection) ≡ false }
     ensures check_taken { IsTaken worked.check_with_hints }
     ensures no_hints { hints_asked (first_of (codes "hints") (verb_matches worked.check_with_hints)) ≡ None }
+{}
+
+/// Worked command lines of `types`. One with a schema is taken with its file and its format, and has no filter. A line
+/// without a schema and one with a filter are not taken.
+pub fn types_by_example()
+    ensures asks { AskForTypes worked.whole_types }
+    ensures schema { first_of (codes "schema") (types_matches worked.whole_types) ≡ Some (codes "s") }
+    ensures format { format_asked (first_of (codes "format") (types_matches worked.whole_types)) ≡ Some Format.Json }
+    ensures no_plan { GivesNotOne worked.whole_types }
+    ensures missing { fault_of odfilter_app worked.types_alone ≡ kind.MissingRequiredArgument ∷ [] }
+    ensures no_filter { fault_of odfilter_app worked.types_with_filter ≡ kind.UnknownArgument ∷ [] }
 {}

@@ -14,6 +14,6 @@ mod laws;
 mod planner;
 mod requests;
 
-pub use laws::{lines_by_example, reports_by_example};
+pub use laws::{lines_by_example, reports_by_example, types_by_example};
 pub use planner::plan;
 pub use requests::request;

@@ -3,8 +3,9 @@ ghost use Rattle.clap.specs.Words.{App, found_of, rows_of, rule_of};
 ghost use Rattle.command_plan.specs.CommandLine.{HasValues, IsPlanOf, IsRefusedBy};
 ghost use Rattle.command_plan.specs.CommandLine.{check_app, explain_app, filter_app, flag_rule, formed_app, is_flag_set};
 ghost use Rattle.command_plan.specs.CommandLine.{counting_app, odfilter_app, option_value, option_values, repeated_rule};
-ghost use Rattle.command_plan.specs.CommandLine.{rowless_app, text_rule, verb_app};
-ghost use Rattle.command_plan.specs.private.Planner.{HasTexts, IsApp, IsClapFault, IsLineOf, IsNoLineFault, IsNotOneFault};
+ghost use Rattle.command_plan.specs.CommandLine.{rowless_app, text_rule, types_app, verb_app};
+ghost use Rattle.command_plan.specs.private.Planner.{HasTypesTexts, HasVerb, HasVerbTexts, IsApp, IsClapFault, IsEnteredBy};
+ghost use Rattle.command_plan.specs.private.Planner.{IsNoLineFault, IsNotOneFault};
 
 use super::command_line::{Plan, PlanFault, Verb};
 use clap::error::ErrorKind;
@@ -22,6 +23,7 @@ Examples:
   odfilter filter --schema schema.json --type Mini.Item --filter \"Name eq 'a'\" --rows rows.json
   odfilter filter --schema schema.json --type Mini.Item --query '$filter=ID%20eq%201' <rows.json
   odfilter filter --schema schema.json --type Mini.Item --filter \"Name eq 'a'\" --collection <answer.json
+  odfilter types --schema schema.json
 
 Statuses:
   0  done; or help or the version was asked for
@@ -144,7 +146,8 @@ fn explain_command<'a>(alloc: Global) -> Result<Command<'a>, AllocError>
     )
 }
 
-/// The subcommand `filter`, which may name its rows, say what stands for now, and say that the rows are a collection.
+/// The subcommand `filter`, which may name its rows, say what stands for now, say that the rows are a collection, and ask
+/// for its entities.
 fn filter_command<'a>(alloc: Global) -> Result<Command<'a>, AllocError>
     ensures { IfOk result (IsApp filter_app) }
 {
@@ -165,9 +168,17 @@ fn filter_command<'a>(alloc: Global) -> Result<Command<'a>, AllocError>
         "collection",
         "The rows are the array `value` of one JSON object; the indexes of the kept ones are written",
     );
+    let items = flag(
+        alloc,
+        "items",
+        "Of a collection the kept entities are written, a line each, instead of their indexes",
+    );
     let about = "Writes the rows whose outcome is true, as they come";
     let command = verb_command(alloc, "filter", about)?;
-    with_counts(alloc, command.arg(rows)?.arg(now)?.arg(collection)?)
+    with_counts(
+        alloc,
+        command.arg(rows)?.arg(now)?.arg(collection)?.arg(items)?,
+    )
 }
 
 /// The command with the flags of runs over rows that may be at fault.
@@ -200,11 +211,27 @@ fn rowless_command<'a>(alloc: Global) -> Result<Command<'a>, AllocError>
         .subcommand(explain_command(alloc)?)
 }
 
+/// The subcommand `types`, which has no filter.
+fn types_command<'a>(alloc: Global) -> Result<Command<'a>, AllocError>
+    ensures { IfOk result (IsApp types_app) }
+{
+    let schema = text_option(alloc, "schema", "FILE", "CSDL JSON that declares the types").required(
+        true,
+    );
+    let command = Command::new(alloc, "types")
+        .about("Lists the entity and complex types of a schema with their properties")
+        .after_help(AFTER_HELP)
+        .arg(schema)?;
+    with_form(alloc, command)
+}
+
 /// The command line as `clap` reads it.
 fn command<'a>(alloc: Global) -> Result<Command<'a>, AllocError>
     ensures { IfOk result (IsApp odfilter_app) }
 {
-    rowless_command(alloc)?.subcommand(filter_command(alloc)?)
+    rowless_command(alloc)?
+        .subcommand(filter_command(alloc)?)?
+        .subcommand(types_command(alloc)?)
 }
 
 fn fault_of(error: Error) -> PlanFault
@@ -264,6 +291,16 @@ fn skips_faulty(verb: Verb, matches: &ArgMatches<'_>) -> bool
 {
     match verb {
         Verb::Filter => matches.get_one::<bool>("skip-faulty").unwrap_or(false),
+        Verb::Check | Verb::Explain => false,
+    }
+}
+
+/// Whether the entities of a collection are written, which `filter` alone may say.
+fn writes_items(verb: Verb, matches: &ArgMatches<'_>) -> bool
+    ensures { result ≡ is_flag_set verb (codes "items") (rows_of (found_of matches.now)) }
+{
+    match verb {
+        Verb::Filter => matches.get_one::<bool>("items").unwrap_or(false),
         Verb::Check | Verb::Explain => false,
     }
 }
@@ -328,12 +365,32 @@ pub(crate) struct Line<'a> {
     pub(crate) rows: Vec<&'a str>,
     pub(crate) count: bool,
     pub(crate) skip_faulty: bool,
+    pub(crate) items: bool,
+}
+
+/// A command line that asks for the types of a schema, and the texts that say how these are reported.
+#[derive(Drop)]
+pub(crate) struct TypesLine<'a> {
+    pub(crate) schema: &'a str,
+    pub(crate) hints: Option<&'a str>,
+    pub(crate) format: Option<&'a str>,
+}
+
+/// What stands after the subcommand that was entered.
+#[derive(Drop)]
+pub(crate) enum Entered<'a> {
+    Run(Line<'a>),
+    Types(TypesLine<'a>),
 }
 
 /// The line of what stands after a verb.
-fn line_of<'a>(alloc: Global, verb: Verb, matches: &ArgMatches<'a>) -> Result<Line<'a>, PlanFault>
-    ensures verb { IfOk result (λ line. line.plan.verb ≡ verb) }
-    ensures values { MatchResult result (HasTexts (rows_of (found_of matches.now)))
+fn line_of<'a>(
+    alloc: Global,
+    verb: Verb,
+    matches: &ArgMatches<'a>,
+) -> Result<Entered<'a>, PlanFault>
+    ensures verb { IfOk result (HasVerb verb) }
+    ensures values { MatchResult result (HasVerbTexts (rows_of (found_of matches.now)))
         (IsNoLineFault (rows_of (found_of matches.now))) }
 {
     let plan = match plan_of(verb, matches) {
@@ -343,21 +400,33 @@ fn line_of<'a>(alloc: Global, verb: Verb, matches: &ArgMatches<'a>) -> Result<Li
     let hints = matches.get_str("hints");
     let format = matches.get_str("format");
     match rows_files(alloc, verb, matches) {
-        Ok(rows) => Ok(Line {
+        Ok(rows) => Ok(Entered::Run(Line {
             plan,
             hints,
             format,
             rows,
             count: is_counted(verb, matches),
             skip_faulty: skips_faulty(verb, matches),
-        }),
+            items: writes_items(verb, matches),
+        })),
         Err(_) => Err(PlanFault::Memory),
     }
 }
 
+/// The line of what stands after `types`.
+fn types_of<'a>(matches: &ArgMatches<'a>) -> TypesLine<'a>
+    ensures { HasTypesTexts (rows_of (found_of matches.now)) result }
+{
+    TypesLine {
+        schema: matches.get_str("schema").unwrap_or(""),
+        hints: matches.get_str("hints"),
+        format: matches.get_str("format"),
+    }
+}
+
 /// Reads a command line.
-pub(crate) fn read_line<'a>(alloc: Global, words: &'a [&'a str]) -> Result<Line<'a>, PlanFault>
-    ensures { MatchResult result (IsLineOf (map (λ s. s.now) words.entry.now))
+pub(crate) fn read_line<'a>(alloc: Global, words: &'a [&'a str]) -> Result<Entered<'a>, PlanFault>
+    ensures { MatchResult result (IsEnteredBy (map (λ s. s.now) words.entry.now))
         (IsRefusedBy (map (λ s. s.now) words.entry.now)) }
 {
     let command = match command(alloc) {
@@ -374,7 +443,10 @@ pub(crate) fn read_line<'a>(alloc: Global, words: &'a [&'a str]) -> Result<Line<
             Some(inner) => line_of(alloc, Verb::Check, inner),
             None => match matches.subcommand_matches("explain") {
                 Some(inner) => line_of(alloc, Verb::Explain, inner),
-                None => Err(PlanFault::OneOf),
+                None => match matches.subcommand_matches("types") {
+                    Some(inner) => Ok(Entered::Types(types_of(inner))),
+                    None => Err(PlanFault::OneOf),
+                },
             },
         },
     }
@@ -382,15 +454,16 @@ pub(crate) fn read_line<'a>(alloc: Global, words: &'a [&'a str]) -> Result<Line<
 
 /// Reads a command line, the program's name first, for its plan alone.
 ///
-/// `OneOf` is returned where not exactly one of filter and query is given, `Clap` where `clap` refuses the words or is
-/// asked for help or the version.
+/// `OneOf` is returned where not exactly one of filter and query is given, and for `types`, `Clap` where `clap` refuses
+/// the words or is asked for help or the version.
 #[inline(never)]
 pub fn plan<'a>(alloc: Global, words: &'a [&'a str]) -> Result<Plan<'a>, PlanFault>
     ensures { MatchResult result (IsPlanOf (map (λ s. s.now) words.entry.now))
         (IsRefusedBy (map (λ s. s.now) words.entry.now)) }
 {
     match read_line(alloc, words) {
-        Ok(line) => Ok(line.plan),
+        Ok(Entered::Run(line)) => Ok(line.plan),
+        Ok(Entered::Types(_)) => Err(PlanFault::OneOf),
         Err(fault) => Err(fault),
     }
 }

@@ -1,11 +1,11 @@
 //! Command lines, read whole: a plan, and how a run of it reports.
-ghost use Rattle.std.specs.Prelude.{◌≡◌, ◌&&◌, ◌||◌, MatchResult, map, option_map};
-ghost use Rattle.command_plan.specs.CommandLine.{IsPlanOf};
+ghost use Rattle.std.specs.Prelude.{◌≡◌, ◌&&◌, ◌||◌, List, MatchResult, map, not, option_map};
+ghost use Rattle.clap.specs.Words.{Text};
 ghost use Rattle.command_plan.specs.Requests.{IsNoRequest, IsRequestOf, format_asked, hints_asked};
-ghost use Rattle.command_plan.specs.private.Planner.{IsLineOf};
+ghost use Rattle.command_plan.specs.private.Planner.{IsLineOf, IsTypesLineOf};
 
-use super::command_line::{Format, Hints, Request, RequestFault};
-use super::planner::{Line, read_line};
+use super::command_line::{Format, Hints, Request, RequestFault, RunRequest, TypesRequest};
+use super::planner::{Entered, Line, TypesLine, read_line};
 use std::alloc::Global;
 
 /// When hints are wanted, by the text of the option; `None` if it is none of its words.
@@ -49,18 +49,18 @@ fn asks_for_both(line: &Line<'_>) -> bool
     line.plan.collection && (line.count || line.skip_faulty)
 }
 
-/// Reads a command line, the program's name first.
-///
-/// A fault of its plan is as [`plan`](crate::plan) has it, and is reported before `Hints`, `Format` and `Collection`.
-#[inline(never)]
-pub fn request<'a>(alloc: Global, words: &'a [&'a str]) -> Result<Request<'a>, RequestFault>
-    ensures { MatchResult result (IsRequestOf (map (λ s. s.now) words.entry.now))
-        (IsNoRequest (map (λ s. s.now) words.entry.now)) }
+/// Whether the entities of a collection are to be written, and the rows are none.
+fn lacks_collection(line: &Line<'_>) -> bool
+    ensures { result ≡ (line.now.items && not line.now.plan.collection) }
 {
-    let line = match read_line(alloc, words) {
-        Ok(line) => line,
-        Err(fault) => return Err(RequestFault::Plan(fault)),
-    };
+    line.items && !line.plan.collection
+}
+
+/// The request of a line with a plan.
+fn run_request<'a>(line: Line<'a>) -> Result<Request<'a>, RequestFault>
+    ensures { (words : List Text) → IsLineOf words line.entry
+        → MatchResult result (IsRequestOf words) (IsNoRequest words) }
+{
     let Some(hints) = hints_asked(line.hints) else {
         return Err(RequestFault::Hints);
     };
@@ -70,12 +70,50 @@ pub fn request<'a>(alloc: Global, words: &'a [&'a str]) -> Result<Request<'a>, R
     if asks_for_both(&line) {
         return Err(RequestFault::Collection);
     }
-    Ok(Request {
+    if lacks_collection(&line) {
+        return Err(RequestFault::Items);
+    }
+    Ok(Request::Run(RunRequest {
         plan: line.plan,
         hints,
         format,
         rows: line.rows,
         count: line.count,
         skip_faulty: line.skip_faulty,
-    })
+        items: line.items,
+    }))
+}
+
+/// The request of a line of `types`.
+fn types_request<'a>(line: TypesLine<'a>) -> Result<Request<'a>, RequestFault>
+    ensures { (words : List Text) → IsTypesLineOf words line.entry
+        → MatchResult result (IsRequestOf words) (IsNoRequest words) }
+{
+    let Some(hints) = hints_asked(line.hints) else {
+        return Err(RequestFault::Hints);
+    };
+    let Some(format) = format_asked(line.format) else {
+        return Err(RequestFault::Format);
+    };
+    Ok(Request::Types(TypesRequest {
+        schema: line.schema,
+        hints,
+        format,
+    }))
+}
+
+/// Reads a command line, the program's name first.
+///
+/// A fault of its plan is as [`plan`](crate::plan) has it, and is reported before `Hints`, `Format`, `Collection` and
+/// `Items`. A line of `types` has no plan, and no fault of one.
+#[inline(never)]
+pub fn request<'a>(alloc: Global, words: &'a [&'a str]) -> Result<Request<'a>, RequestFault>
+    ensures { MatchResult result (IsRequestOf (map (λ s. s.now) words.entry.now))
+        (IsNoRequest (map (λ s. s.now) words.entry.now)) }
+{
+    match read_line(alloc, words) {
+        Ok(Entered::Run(line)) => run_request(line),
+        Ok(Entered::Types(line)) => types_request(line),
+        Err(fault) => Err(RequestFault::Plan(fault)),
+    }
 }

@@ -1,23 +1,8 @@
 //! The names of types.
 use csdl_schema::Schema;
-use edm_values::Prim;
 use odata_typing::{EdmType, ValueType};
 use std::alloc::{AllocError, Global};
-
-fn primitive_name(prim: Prim) -> &'static str {
-    match prim {
-        Prim::Bool => "Edm.Boolean",
-        Prim::Byte => "Edm.Byte",
-        Prim::SByte => "Edm.SByte",
-        Prim::Int16 => "Edm.Int16",
-        Prim::Int32 => "Edm.Int32",
-        Prim::Int64 => "Edm.Int64",
-        Prim::String => "Edm.String",
-        Prim::Date => "Edm.Date",
-        Prim::DateTimeOffset => "Edm.DateTimeOffset",
-        Prim::Guid => "Edm.Guid",
-    }
-}
+use type_listing::primitive_name;
 
 fn value_type_name<'s>(schema: &'s Schema, value_type: ValueType) -> &'s str {
     match value_type {

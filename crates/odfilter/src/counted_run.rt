@@ -1,67 +1,29 @@
 //! Runs whose rows are counted, or that pass over rows at fault.
 use crate::fault_lines::{report, report_memory};
-use crate::plan_run::{faults_of, plan_over, rows_of};
-use crate::reports::{PlanRun, report_as_json, report_hints};
+use crate::plan_run::{plan_over, rows_of};
+use crate::progress::Progress;
 use crate::row_faults::RowFaults;
-use odata_filter::command_line::{Format, Plan, Request};
-use odata_filter::{Ended, Failure, Tally, report_failure, run_past_faults};
+use crate::run_end::report_end;
+use odata_filter::command_line::{Format, Plan, RunRequest};
+use odata_filter::{Tally, run_past_faults};
 
 /// What a run keeps of its files so far.
 #[derive(Drop)]
-struct Counted<'r> {
-    faults: RowFaults<'r>,
+struct Counted<'p, 'r> {
+    faults: RowFaults<'p, 'r>,
     tally: Tally,
-}
-
-/// Reports a failure, and returns the status.
-fn report_end<'p>(
-    rt: &HostRuntime,
-    request: &Request<'_>,
-    plan: &Plan<'p>,
-    document: &[u8],
-    failure: Failure<'p>,
-) -> u8 {
-    let status = failure.status();
-    let ended = Ended {
-        status,
-        failure: Some(failure),
-    };
-    let run = PlanRun {
-        plan,
-        document,
-        ended: &ended,
-    };
-    match request.format {
-        Format::Json => report_as_json(rt, &run),
-        Format::Text => {
-            report_line(rt, request, &run);
-            report_hints(rt, request.hints, &run);
-            status
-        }
-    }
-}
-
-/// Writes the line of a failure, after the name of the file where there are several.
-fn report_line(rt: &HostRuntime, request: &Request<'_>, run: &PlanRun<'_, '_>) {
-    let mut err = faults_of(rt, request, run.plan);
-    match &run.ended.failure {
-        Some(failure) => {
-            let _ = report_failure(failure, &mut rt.stdout(), &mut err);
-        }
-        None => {}
-    }
 }
 
 /// Carries the plan out over one file of rows.
 fn count_file<'r>(
     rt: &'r HostRuntime,
-    request: &Request<'r>,
+    request: &RunRequest<'r>,
     plan: &Plan<'r>,
     document: &[u8],
-    counted: &mut Counted<'r>,
+    counted: &mut Counted<'_, 'r>,
 ) -> u8 {
     counted.faults.file = plan.rows;
-    let rows = rows_of(rt, plan);
+    let rows = rows_of(rt, plan, counted.faults.progress);
     let mut out = rt.stdout();
     match run_past_faults(
         rt.alloc(),
@@ -83,9 +45,9 @@ fn count_file<'r>(
 /// Carries the plan out over each file of rows, up to the first that fails.
 fn count_files<'r>(
     rt: &'r HostRuntime,
-    request: &Request<'r>,
+    request: &RunRequest<'r>,
     document: &[u8],
-    counted: &mut Counted<'r>,
+    counted: &mut Counted<'_, 'r>,
 ) -> u8 {
     if request.rows.is_empty() {
         return count_file(rt, request, &request.plan, document, counted);
@@ -101,7 +63,7 @@ fn count_files<'r>(
 }
 
 /// How many rows had each fault: `: Missing 1, Json 2`, or as members of an object.
-fn counts_text(rt: &HostRuntime, counted: &Counted<'_>, format: Format) -> Option<String> {
+fn counts_text(rt: &HostRuntime, counted: &Counted<'_, '_>, format: Format) -> Option<String> {
     let alloc = rt.alloc();
     let mut text = String::new(alloc);
     for (name, count) in counted.faults.counts.as_slice() {
@@ -117,7 +79,7 @@ fn counts_text(rt: &HostRuntime, counted: &Counted<'_>, format: Format) -> Optio
 }
 
 /// Writes how many rows there were, how many were kept, and how many had each fault.
-fn write_counts(rt: &HostRuntime, counted: &Counted<'_>, format: Format) {
+fn write_counts(rt: &HostRuntime, counted: &Counted<'_, '_>, format: Format) {
     let Tally { rows, kept } = counted.tally;
     let total = counted.faults.total();
     let _ = match (counts_text(rt, counted, format), format) {
@@ -143,19 +105,19 @@ fn write_counts(rt: &HostRuntime, counted: &Counted<'_>, format: Format) {
 /// Carries out a plan whose rows are counted, or of which those at fault are passed over. Returns the exit status: 4 if
 /// any was.
 #[inline(never)]
-pub fn count_rows<'r>(rt: &'r HostRuntime, request: &Request<'r>, document: &[u8]) -> u8 {
+pub fn count_rows<'r>(
+    rt: &'r HostRuntime,
+    request: &RunRequest<'r>,
+    document: &[u8],
+    progress: &Progress<'r>,
+) -> u8 {
     let mut counted = Counted {
-        faults: RowFaults {
-            rt,
-            format: request.format,
-            is_passing: request.skip_faulty,
-            file: None,
-            names_file: 1 < request.rows.len(),
-            counts: Vec::new(rt.alloc()),
-        },
+        faults: RowFaults::none(request.format, request.skip_faulty, progress),
         tally: Tally { rows: 0, kept: 0 },
     };
+    counted.faults.names_file = 1 < request.rows.len();
     let status = count_files(rt, request, document, &mut counted);
+    progress.clear();
     if status != 0 {
         return status;
     }

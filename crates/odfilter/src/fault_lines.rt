@@ -31,10 +31,9 @@ fn report_plan_fault(rt: &HostRuntime, fault: PlanFault) -> u8 {
 pub fn report_fault(rt: &HostRuntime, fault: RequestFault) -> u8 {
     match fault {
         RequestFault::Plan(fault) => report_plan_fault(rt, fault),
-        RequestFault::Hints | RequestFault::Format | RequestFault::Collection => report(
-            rt,
-            format_args!("usage {fault}"),
-            2,
-        ),
+        RequestFault::Hints
+        | RequestFault::Format
+        | RequestFault::Collection
+        | RequestFault::Items => report(rt, format_args!("usage {fault}"), 2),
     }
 }

@@ -3,13 +3,19 @@
 
 mod counted_run;
 mod fault_lines;
+mod items_run;
 mod plan_run;
+mod progress;
 mod reports;
 mod row_faults;
+mod run_end;
 mod streams;
+mod types_run;
 
 use crate::fault_lines::{report, report_fault, report_memory};
 use crate::plan_run::carry_out;
+use crate::types_run::list_types;
+use odata_filter::command_line::Request;
 use odata_filter::request;
 use std::io::ErrorKind;
 use std::process::ExitCode;
@@ -32,7 +38,8 @@ fn status(rt: &HostRuntime) -> io::Result<u8> {
         texts.push(word.as_str())?;
     }
     Ok(match request(rt.alloc(), texts.as_slice()) {
-        Ok(request) => carry_out(rt, &request),
+        Ok(Request::Run(request)) => carry_out(rt, &request),
+        Ok(Request::Types(request)) => list_types(rt, &request),
         Err(fault) => report_fault(rt, fault),
     })
 }

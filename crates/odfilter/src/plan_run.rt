@@ -1,9 +1,11 @@
 //! A plan carried out, over the files that it names.
 use crate::counted_run::count_rows;
 use crate::fault_lines::{report, report_memory};
+use crate::items_run::write_entities;
+use crate::progress::Progress;
 use crate::reports::{PlanRun, report_as_json, report_hints};
-use crate::streams::{Rows, Written};
-use odata_filter::command_line::{Format, Plan, Request, Verb};
+use crate::streams::{Faults, Rows, Source, Written};
+use odata_filter::command_line::{Format, Plan, RunRequest, Verb};
 use odata_filter::{ReadAllError, read_whole, run_to_failure};
 use std::fs::File;
 use std::io::{ErrorKind, Read, Stderr, Stdout};
@@ -12,7 +14,7 @@ use std::io::{ErrorKind, Read, Stderr, Stdout};
 const SCHEMA_BYTES: u64 = 1_048_577;
 
 /// The bytes of the schema file, as many as matter.
-fn schema_bytes(rt: &HostRuntime, name: &str) -> Result<Vec<u8>, ReadAllError> {
+pub fn schema_bytes(rt: &HostRuntime, name: &str) -> Result<Vec<u8>, ReadAllError> {
     match File::open(rt, name) {
         Ok(file) => read_whole(rt.alloc(), &mut file.take(SCHEMA_BYTES)),
         Err(error) if error.kind() == ErrorKind::OutOfMemory => Err(ReadAllError::Memory),
@@ -20,19 +22,32 @@ fn schema_bytes(rt: &HostRuntime, name: &str) -> Result<Vec<u8>, ReadAllError> {
     }
 }
 
-/// The rows that the plan names.
-pub fn rows_of(rt: &HostRuntime, plan: &Plan<'_>) -> Option<Rows> {
+/// Where the rows come from that the plan names.
+fn source_of(rt: &HostRuntime, plan: &Plan<'_>) -> Option<Source> {
     match plan.rows {
         Some(name) => match File::open(rt, name) {
-            Ok(file) => Some(Rows::File(file)),
+            Ok(file) => Some(Source::File(file)),
             Err(_) => None,
         },
-        None => Some(Rows::Stdin(rt.stdin())),
+        None => Some(Source::Stdin(rt.stdin())),
     }
 }
 
-/// Standard output for the rows that are kept, and for what is found of a filter unless that is written as JSON.
-fn output_of(rt: &HostRuntime, request: &Request<'_>) -> Written<'static, Stdout> {
+/// The rows that the plan names.
+pub fn rows_of<'p, 'r>(
+    rt: &HostRuntime,
+    plan: &Plan<'_>,
+    progress: &'p Progress<'r>,
+) -> Option<Rows<'p, 'r>> {
+    match source_of(rt, plan) {
+        Some(source) => Some(Rows { source, progress }),
+        None => None,
+    }
+}
+
+/// Standard output for the rows that are kept, and for what is found of a filter unless that is written as JSON. Runs
+/// that count rows or write entities write to another type: so the loop over lines here has all of a step in itself.
+fn output_of(rt: &HostRuntime, request: &RunRequest<'_>) -> Written<'static, Stdout> {
     match (request.format, request.plan.verb) {
         (Format::Json, Verb::Check | Verb::Explain) => Written::Nothing,
         _ => Written::Stream(rt.stdout()),
@@ -43,7 +58,7 @@ fn output_of(rt: &HostRuntime, request: &Request<'_>) -> Written<'static, Stdout
 /// as JSON.
 pub fn faults_of<'p>(
     rt: &HostRuntime,
-    request: &Request<'_>,
+    request: &RunRequest<'_>,
     plan: &Plan<'p>,
 ) -> Written<'p, Stderr> {
     match (request.format, plan.rows) {
@@ -76,10 +91,21 @@ pub fn plan_over<'p>(plan: &Plan<'p>, file: &'p str) -> Plan<'p> {
 }
 
 /// Opens the rows that the plan names, and carries it out over the bytes of its schema file.
-fn carry_out_over(rt: &HostRuntime, request: &Request<'_>, plan: &Plan<'_>, document: &[u8]) -> u8 {
-    let (mut out, mut err) = (output_of(rt, request), faults_of(rt, request, plan));
-    let rows = rows_of(rt, plan);
+fn carry_out_over(
+    rt: &HostRuntime,
+    request: &RunRequest<'_>,
+    plan: &Plan<'_>,
+    document: &[u8],
+    progress: &Progress<'_>,
+) -> u8 {
+    let mut out = output_of(rt, request);
+    let mut err = Faults {
+        progress,
+        written: faults_of(rt, request, plan),
+    };
+    let rows = rows_of(rt, plan, progress);
     let ended = run_to_failure(rt.alloc(), plan, document, rows, &mut out, &mut err);
+    progress.clear();
     let run = PlanRun {
         plan,
         document,
@@ -94,17 +120,33 @@ fn carry_out_over(rt: &HostRuntime, request: &Request<'_>, plan: &Plan<'_>, docu
     }
 }
 
+/// Carries the plan out over the rows that it names.
+fn carry_out_one(
+    rt: &HostRuntime,
+    request: &RunRequest<'_>,
+    plan: &Plan<'_>,
+    document: &[u8],
+    progress: &Progress<'_>,
+) -> u8 {
+    if request.items {
+        write_entities(rt, request, plan, document, progress)
+    } else {
+        carry_out_over(rt, request, plan, document, progress)
+    }
+}
+
 /// Carries the plan out over each file of rows, up to the first that fails.
-fn carry_out_each(rt: &HostRuntime, request: &Request<'_>, document: &[u8]) -> u8 {
+fn carry_out_each<'r>(rt: &'r HostRuntime, request: &RunRequest<'r>, document: &[u8]) -> u8 {
+    let progress = Progress::begin(rt);
     if request.count || request.skip_faulty {
-        return count_rows(rt, request, document);
+        return count_rows(rt, request, document, &progress);
     }
     if request.rows.is_empty() {
-        return carry_out_over(rt, request, &request.plan, document);
+        return carry_out_one(rt, request, &request.plan, document, &progress);
     }
     for file in request.rows.as_slice() {
         let plan = plan_over(&request.plan, *file);
-        let status = carry_out_over(rt, request, &plan, document);
+        let status = carry_out_one(rt, request, &plan, document, &progress);
         if status != 0 {
             return status;
         }
@@ -114,7 +156,7 @@ fn carry_out_each(rt: &HostRuntime, request: &Request<'_>, document: &[u8]) -> u
 
 /// Reads the schema file and carries the plan out. What reports a failure comes after what a run calls, in the program
 /// too, and so stays out of memory.
-pub fn carry_out(rt: &HostRuntime, request: &Request<'_>) -> u8 {
+pub fn carry_out(rt: &HostRuntime, request: &RunRequest<'_>) -> u8 {
     let name = request.plan.schema;
     match schema_bytes(rt, name) {
         Ok(document) => carry_out_each(rt, request, document.as_slice()),

@@ -1,5 +1,6 @@
 //! The faults of rows that a run passes over: each is reported, and counted by its name.
 use crate::fault_lines::report;
+use crate::progress::Progress;
 use command_hints::{bad_row_json, bad_row_name};
 use odata_filter::command_line::Format;
 use odata_filter::{BadRow, TakesFaults};
@@ -7,7 +8,7 @@ use std::alloc::AllocError;
 
 /// The faults of rows so far.
 #[derive(Drop)]
-pub struct RowFaults<'r> {
+pub struct RowFaults<'p, 'r> {
     pub rt: &'r HostRuntime,
     pub format: Format,
     /// Whether rows at fault are passed over.
@@ -16,11 +17,25 @@ pub struct RowFaults<'r> {
     pub file: Option<&'r str>,
     /// Whether lines name the file.
     pub names_file: bool,
+    pub progress: &'p Progress<'r>,
     /// How many rows had the fault of that name, in the order in which the names came.
     pub counts: Vec<(&'static str, u64)>,
 }
 
-impl RowFaults<'_> {
+impl<'p, 'r> RowFaults<'p, 'r> {
+    /// None so far. Those of rows that are at fault are passed over, or end the run.
+    pub fn none(format: Format, is_passing: bool, progress: &'p Progress<'r>) -> RowFaults<'p, 'r> {
+        RowFaults {
+            rt: progress.rt,
+            format,
+            is_passing,
+            file: None,
+            names_file: false,
+            progress,
+            counts: Vec::new(progress.rt.alloc()),
+        }
+    }
+
     /// How many rows were at fault.
     pub fn total(&self) -> u64 {
         let mut total = 0u64;
@@ -62,6 +77,7 @@ impl RowFaults<'_> {
 
     /// Writes the object or the line of a fault.
     fn write(&self, number: u64, fault: &BadRow) {
+        self.progress.clear();
         match self.object_of(number, fault) {
             Some(object) => {
                 let _ = report(self.rt, object.as_str(), 4);
@@ -71,7 +87,7 @@ impl RowFaults<'_> {
     }
 }
 
-impl TakesFaults<BadRow> for RowFaults<'_> {
+impl TakesFaults<BadRow> for RowFaults<'_, '_> {
     fn passes_over(&mut self, number: u64, fault: &BadRow) -> bool {
         if !self.is_passing || fault.is_memory() || self.count(bad_row_name(fault)).is_err() {
             return false;

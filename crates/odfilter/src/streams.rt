@@ -1,21 +1,51 @@
 //! The streams of a run.
+use crate::progress::Progress;
 use std::fs::File;
 use std::io;
-use std::io::{Read, Stdin, Write};
+use std::io::{Cursor, Read, Stderr, Stdin, Write};
 
-/// Where the rows come from. A run over either is the same code, which is in memory once.
+/// Where rows come from.
 #[derive(Drop)]
-pub enum Rows {
+pub enum Source {
     File(File),
     Stdin(Stdin),
+    Held(Cursor<Vec<u8>>),
 }
 
-impl Read for Rows {
+/// Rows that are read, and how far that has come. A run over any source is the same code, which is in memory once.
+#[derive(Drop)]
+pub struct Rows<'p, 'r> {
+    pub source: Source,
+    pub progress: &'p Progress<'r>,
+}
+
+impl Read for Rows<'_, '_> {
     fn read(&mut self, bytes: &mut [u8]) -> io::Result<usize> {
-        match self {
-            Rows::File(file) => file.read(bytes),
-            Rows::Stdin(stdin) => stdin.read(bytes),
-        }
+        let count = match &mut self.source {
+            Source::File(file) => file.read(bytes),
+            Source::Stdin(stdin) => stdin.read(bytes),
+            Source::Held(held) => return held.read(bytes),
+        }?;
+        self.progress.read(bytes.get(..count).unwrap_or(&[]));
+        Ok(count)
+    }
+}
+
+/// Standard error, on which the line of the progress is taken away before another.
+#[derive(Drop)]
+pub struct Faults<'p, 'r, 'n> {
+    pub progress: &'p Progress<'r>,
+    pub written: Written<'n, Stderr>,
+}
+
+impl Write for Faults<'_, '_, '_> {
+    fn write(&mut self, bytes: &[u8]) -> io::Result<usize> {
+        self.progress.clear();
+        self.written.write(bytes)
+    }
+
+    fn flush(&mut self) -> io::Result<()> {
+        self.written.flush()
     }
 }
 

@@ -1,24 +1,8 @@
 //! The nodes of a checked filter: where they stand, their types and slots.
 use csdl_schema::{EnumId, Property, PropertyKind, Schema, TypeId};
-use edm_values::Prim;
 use odata_typing::{Checked, EdmType, ValueType};
 use std::alloc::AllocError;
-
-/// The name of a primitive type, as `Edm.Int32`.
-fn prim_name(prim: Prim) -> &'static str {
-    match prim {
-        Prim::Bool => "Edm.Boolean",
-        Prim::Byte => "Edm.Byte",
-        Prim::SByte => "Edm.SByte",
-        Prim::Int16 => "Edm.Int16",
-        Prim::Int32 => "Edm.Int32",
-        Prim::Int64 => "Edm.Int64",
-        Prim::String => "Edm.String",
-        Prim::Date => "Edm.Date",
-        Prim::DateTimeOffset => "Edm.DateTimeOffset",
-        Prim::Guid => "Edm.Guid",
-    }
-}
+use type_listing::primitive_name;
 
 /// The name of an enumeration, with its namespace.
 pub(crate) fn enumeration_name(schema: &Schema, id: EnumId) -> &str {
@@ -32,7 +16,7 @@ pub(crate) fn structured_name(schema: &Schema, id: TypeId) -> &str {
 
 fn value_type_name(schema: &Schema, value_type: ValueType) -> &str {
     match value_type {
-        ValueType::Prim(prim) => prim_name(prim),
+        ValueType::Prim(prim) => primitive_name(prim),
         ValueType::Enum(id) => enumeration_name(schema, id),
         ValueType::Structured(id) => structured_name(schema, id),
     }
@@ -95,7 +79,7 @@ pub(crate) fn push_nodes(out: &mut String, checked: &Checked<'_>) -> Result<(), 
 
 fn kind_name(schema: &Schema, kind: PropertyKind) -> &str {
     match kind {
-        PropertyKind::Prim(prim) => prim_name(prim),
+        PropertyKind::Prim(prim) => primitive_name(prim),
         PropertyKind::Enum(id) => enumeration_name(schema, id),
         PropertyKind::Complex(id) => structured_name(schema, id),
         PropertyKind::Opaque => "opaque",

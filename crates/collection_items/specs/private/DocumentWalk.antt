@@ -7,7 +7,8 @@ use Rattle.serde_json.specs.View.{items_of}
 use Rattle.json_room.specs.Lexemes.{EndsHere, tokens_at}
 use Rattle.json_room.specs.private.ItemTokens.{ReadsItems}
 use Rattle.json_room.specs.private.ValuesStand.{PassesTo, NamesTo, MembersUpTo}
-use Rattle.collection_items.specs.JudgedItems.{AreJudged, ItemJudge}
+use Rattle.collection_items.specs.ItemLines.{StandsBetween, lines_between}
+use Rattle.collection_items.specs.JudgedItems.{AreJudged}
 use Rattle.collection_items.specs.declared.document_walk.After.{After}
 use Rattle.collection_items.specs.declared.document_walk.After.TheVariants.{Close, Comma}
 use Rattle.collection_items.specs.declared.document_walk.MemberName.{MemberName}
@@ -27,12 +28,19 @@ pub record FindsArray (text : List ℕ) (from bracket : ℕ) : Type 0 where
   pub opens : (bracket < length text) × (get_or text bracket 32 ≡ 91)
 
 -- after a bracket stand an array's items, with the closing one; of each that is said
-pub record JudgesArray (judge : ItemJudge) (text : List ℕ) (from : ℕ) (flags : List Bool) (to : ℕ) : Type 0 where
+pub record JudgesArray {K : Type 0} (judge : Data → K → Type 0) (text : List ℕ) (from : ℕ) (answers : List K) (to : ℕ)
+    : Type 0 where
   pub items : List Data
   pub bounds : PassesTo text from to
   pub read : ReadsItems 125 (tokens_at fresh text from) (tokens_at after_value text to)
       (λ found. found ≡ items_of items)
-  pub judged : AreJudged judge items flags
+  pub judged : AreJudged judge items answers
+
+-- the same, where the lines of the items were put
+pub record PutsArray (text : List ℕ) (from : ℕ) (lines : List ℕ) (to : ℕ) : Type 0 where
+  pub places : List (ℕ × ℕ)
+  pub array : JudgesArray (StandsBetween text) text from places to
+  pub are_lines : lines ≡ lines_between text places
 
 -- where an item ends at an offset, a comma or the array's bracket is passed up to the other
 abbrev pub EndsItem : List ℕ → ℕ → After → Type 0

@@ -9,12 +9,14 @@ use Rattle.clap.specs.declared.builder.command.Command.{Command}
 use Rattle.clap.specs.declared.parser.matches.ArgMatches.{ArgMatches}
 use Rattle.clap.specs.declared.parser.matches.ArgMatches.TheViews.{out-ArgMatches, out-SubCommand}
 use Rattle.clap.proofs.OnLiterals.{clap_on_literals}
-use Rattle.command_plan.specs.CommandLine.{HasValues, IsRefusedBy, IsTaken, LacksOneOf, is_flag_set, matches_if_verb, odfilter_app, option_values, verb_matches, verb_word}
+use Rattle.command_plan.specs.CommandLine.{GivesNotOne, HasValues, IsRefusedBy, IsTaken, LacksOneOf, is_flag_set, matches_if, matches_if_verb, odfilter_app, option_values, types_matches, verb_matches, verb_word}
 use Rattle.command_plan.specs.declared.command_line.PlanFault.{PlanFault}
 use Rattle.command_plan.specs.declared.command_line.PlanFault.TheVariants.{Clap, Memory, OneOf}
 use Rattle.command_plan.specs.declared.command_line.Verb.{Verb}
-use Rattle.command_plan.specs.declared.planner.Line.{Line}
-use Rattle.command_plan.specs.private.Planner.{HasTexts, IsApp, IsClapFault, IsLineOf, IsNoLineFault}
+use Rattle.command_plan.specs.declared.planner.Entered.{Entered}
+use Rattle.command_plan.specs.declared.planner.Entered.TheVariants.{Run, Types}
+use Rattle.command_plan.specs.declared.planner.TypesLine.{TypesLine}
+use Rattle.command_plan.specs.private.Planner.{HasTypesTexts, HasVerb, HasVerbTexts, IsApp, IsClapFault, IsEnteredBy, IsNoLineFault, IsTypesLineOf}
 
 -- the program's command is one of those of which `clap` reports its matches and its faults
 pub is_plain : is_simple odfilter_app ≡ true
@@ -72,11 +74,11 @@ refused_by command words error OneOf app kinds is = absurd is
 refused_by command words error Memory app kinds is = tt
 
 -- a line of a verb's matches is one of the words
-pub planned_by : (words : List Text) (verb : Verb) (rows : List Row) (result : Result Line PlanFault)
+pub planned_by : (words : List Text) (verb : Verb) (rows : List Row) (result : Result Entered PlanFault)
     → IsTaken words → subcommand_of odfilter_app words ≡ Some (verb_word verb, rows) → matches_if_verb (Some (verb_word verb, rows)) ≡ rows
-    → IfOk result (λ line. line.plan.verb ≡ verb) → MatchResult result (HasTexts rows) (IsNoLineFault rows)
-    → MatchResult result (IsLineOf words) (IsRefusedBy words)
-planned_by words verb rows (Ok line) taken entered here is_verb texts =
+    → IfOk result (HasVerb verb) → MatchResult result (HasVerbTexts rows) (IsNoLineFault rows)
+    → MatchResult result (IsEnteredBy words) (IsRefusedBy words)
+planned_by words verb rows (Ok (Run line)) taken entered here is_verb texts =
     let found : verb_matches words ≡ rows = ap matches_if_verb entered ∙ here in
     record {
       plan = record {
@@ -89,11 +91,34 @@ planned_by words verb rows (Ok line) taken entered here is_verb texts =
       rows = texts.rows ∙ ap (λ r. option_values line.plan.verb (codes "rows") r) (sym found);
       count = texts.count ∙ ap (λ r. is_flag_set line.plan.verb (codes "count") r) (sym found);
       skip_faulty = texts.skip_faulty ∙ ap (λ r. is_flag_set line.plan.verb (codes "skip-faulty") r) (sym found);
+      items = texts.items ∙ ap (λ r. is_flag_set line.plan.verb (codes "items") r) (sym found);
     }
+planned_by words verb rows (Ok (Types line)) taken entered here is_verb texts = absurd is_verb
 planned_by words verb rows (Err OneOf) taken entered here is_verb texts =
     record { is_taken = taken; lacks = subst LacksOneOf (sym (ap matches_if_verb entered ∙ here)) texts }
 planned_by words verb rows (Err (Clap e)) taken entered here is_verb texts = absurd texts
 planned_by words verb rows (Err Memory) taken entered here is_verb texts = tt
+
+-- a line of the matches of `types` is one of the words
+pub types_by : (words : List Text) (rows : List Row) (line : TypesLine)
+    → IsTaken words → subcommand_of odfilter_app words ≡ Some (codes "types", rows) → matches_if (codes "types") (Some (codes "types", rows)) ≡ rows
+    → HasTypesTexts rows line → IsTypesLineOf words line
+types_by words rows line taken entered here texts =
+    record {
+      asks = record { is_taken = taken; enter = ap (option_map (λ e. e.0)) entered };
+      texts = subst (λ r. HasTypesTexts r line) (sym (ap (matches_if (codes "types")) entered ∙ here)) texts;
+    }
+
+-- it has no plan
+no_plan_of : (o : Option (Text × List Row)) → option_map (λ e. e.0) o ≡ Some (codes "types") → LacksOneOf (matches_if_verb o)
+no_plan_of None enter = cc
+no_plan_of (Some (word, rows)) enter =
+    let is : word ≡ codes "types" = cc in
+    rw is (λ one. one)
+
+pub types_have_no_plan : (words : List Text) (line : TypesLine) → IsTypesLineOf words line → GivesNotOne words
+types_have_no_plan words line is =
+    record { is_taken = is.asks.is_taken; lacks = no_plan_of (subcommand_of odfilter_app words) is.asks.enter }
 
 -- where this verb was not entered, the matches are those of another
 passed_over : (entered : Text × List Row) (word : Text) (others : List Row)

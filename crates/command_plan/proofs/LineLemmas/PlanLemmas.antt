@@ -100,3 +100,8 @@ pub files_found : (f : Found) (id : Text) (o : Option (Bor (List (Bor Text))))
     → option_map (λ s. map (λ v. v.now) s.now) o ≡ option_map raw_values (matched_of f id)
     → unwrap_or (option_map (λ s. map (λ v. v.now) s.now) o) [] ≡ unwrap_or (all_of id (rows_of f)) []
 files_found f id o same = ap (λ o. unwrap_or o []) (same ∙ raw_values-rows f id)
+
+-- what is not Some
+pub none_left : {X : Type 0} (o : Option X) → ((x : X) → o ≡ Some x → ⊥) → o ≡ None
+none_left None other = refl
+none_left (Some x) other = absurd (other x refl)

@@ -1,5 +1,5 @@
 -- Worked command lines with options of reports and of rows.
-use Rattle.std.proofs.Common.{◌≡◌, [], ◌∷◌, true, None, Some, refl, codes}
+use Rattle.std.proofs.Common.{◌≡◌, [], ◌∷◌, false, true, None, Some, refl, codes}
 use Rattle.clap.specs.Words.{all_of, first_of}
 use Rattle.clap.proofs.OnLiterals.{clap_on_literals}
 use Rattle.command_plan.specs.CommandLine.{IsTaken, is_flag_set, verb_matches}
@@ -52,3 +52,15 @@ reports_check_taken = refl
 pub reports_no_hints : hints_asked (first_of (codes "hints") (verb_matches worked.check_with_hints)) ≡ None
 unfolding clap_on_literals
 reports_no_hints = refl
+
+pub items_taken : IsTaken worked.with_items
+unfolding clap_on_literals
+items_taken = refl
+
+pub items_set : is_flag_set Verb.Filter (codes "items") (verb_matches worked.with_items) ≡ true
+unfolding clap_on_literals
+items_set = refl
+
+pub items_unset : is_flag_set Verb.Filter (codes "items") (verb_matches worked.with_collection) ≡ false
+unfolding clap_on_literals
+items_unset = refl

@@ -1,14 +1,18 @@
 -- What the steps of reading a command line say to one another. Private clauses alone cite these.
-use Rattle.std.specs.Prelude.{◌≡◌, List, codes, false, map, option_map}
+use Rattle.std.specs.Prelude.{◌≡◌, List, [], codes, false, map, option_map, unwrap_or}
 use Rattle.clap.specs.Words.{App, Row, Text, app_of, first_of, kind_of}
 use Rattle.clap.specs.declared.builder.command.Command.{Command}
 use Rattle.clap.specs.declared.builder.command.Command.TheViews.{out-Command}
 use Rattle.clap.specs.declared.error.Error.{Error}
 use Rattle.clap.specs.declared.error.kind.ErrorKind.TheVariants.{OutOfMemory}
-use Rattle.command_plan.specs.CommandLine.{HasValues, IsPlanOf, LacksOneOf, is_flag_set, option_values, verb_matches}
+use Rattle.command_plan.specs.CommandLine.{AskForTypes, HasValues, IsPlanOf, LacksOneOf, is_flag_set, option_values}
+use Rattle.command_plan.specs.CommandLine.{types_matches, verb_matches}
 use Rattle.command_plan.specs.declared.command_line.PlanFault.{PlanFault}
 use Rattle.command_plan.specs.declared.command_line.PlanFault.TheVariants.{Clap, OneOf, Memory}
+use Rattle.command_plan.specs.declared.command_line.Verb.{Verb}
+use Rattle.command_plan.specs.declared.planner.Entered.{Entered}
 use Rattle.command_plan.specs.declared.planner.Line.{Line}
+use Rattle.command_plan.specs.declared.planner.TypesLine.{TypesLine}
 
 -- `clap` reads the command as this one, and none of its options is global
 pub record IsApp (app : App) (command : Command) : Type 0 where
@@ -34,6 +38,23 @@ pub record HasTexts (found : List Row) (line : Line) : Type 0 where
   pub rows : map (λ s. s.now) line.rows.items ≡ option_values line.plan.verb (codes "rows") found
   pub count : line.count ≡ is_flag_set line.plan.verb (codes "count") found
   pub skip_faulty : line.skip_faulty ≡ is_flag_set line.plan.verb (codes "skip-faulty") found
+  pub items : line.items ≡ is_flag_set line.plan.verb (codes "items") found
+
+-- the line of a verb has these texts
+abbrev pub HasVerbTexts : List Row → Entered → Type 0
+HasVerbTexts found (Entered.Run line) = HasTexts found line
+HasVerbTexts found (Entered.Types line) = ⊥
+
+-- it is a line of that verb
+abbrev pub HasVerb : Verb → Entered → Type 0
+HasVerb verb (Entered.Run line) = line.plan.verb ≡ verb
+HasVerb verb (Entered.Types line) = ⊥
+
+-- a line of `types` has these texts
+pub record HasTypesTexts (found : List Row) (line : TypesLine) : Type 0 where
+  pub schema : line.schema.now ≡ unwrap_or (first_of (codes "schema") found) []
+  pub hints : option_map (λ s. s.now) line.hints ≡ first_of (codes "hints") found
+  pub format : option_map (λ s. s.now) line.format ≡ first_of (codes "format") found
 
 -- the faults after words that were taken: not one of filter and query, or no memory for the line
 abbrev pub IsNoLineFault : List Row → PlanFault → Type 0
@@ -49,3 +70,14 @@ pub record IsLineOf (words : List Text) (line : Line) : Type 0 where
   pub rows : map (λ s. s.now) line.rows.items ≡ option_values line.plan.verb (codes "rows") (verb_matches words)
   pub count : line.count ≡ is_flag_set line.plan.verb (codes "count") (verb_matches words)
   pub skip_faulty : line.skip_faulty ≡ is_flag_set line.plan.verb (codes "skip-faulty") (verb_matches words)
+  pub items : line.items ≡ is_flag_set line.plan.verb (codes "items") (verb_matches words)
+
+-- the words are this line of `types`
+pub record IsTypesLineOf (words : List Text) (line : TypesLine) : Type 0 where
+  pub asks : AskForTypes words
+  pub texts : HasTypesTexts (types_matches words) line
+
+-- the words are that line
+abbrev pub IsEnteredBy : List Text → Entered → Type 0
+IsEnteredBy words (Entered.Run line) = IsLineOf words line
+IsEnteredBy words (Entered.Types line) = IsTypesLineOf words line

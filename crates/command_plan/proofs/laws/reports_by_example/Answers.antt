@@ -33,3 +33,12 @@ returns-clause-check_taken c = line.reports_check_taken
 
 pub returns-clause-no_hints : goal.returns-clause-no_hints
 returns-clause-no_hints c = line.reports_no_hints
+
+pub returns-clause-items_taken : goal.returns-clause-items_taken
+returns-clause-items_taken c = line.items_taken
+
+pub returns-clause-items : goal.returns-clause-items
+returns-clause-items c = line.items_set
+
+pub returns-clause-no_items : goal.returns-clause-no_items
+returns-clause-no_items c = line.items_unset

@@ -11,4 +11,6 @@ returns c =
     c.text_option-now.ensures.rule c.text_option-now.ensures.local c.in_ok-arg-2.ensures with_rows in
     let with_collection = app_arg c.in_ok-arg-2.field-0 c.in_ok-arg-3.field-0 c.flag-collection.result _ (flag_rule (codes "collection"))
     c.flag-collection.ensures.rule c.flag-collection.ensures.local c.in_ok-arg-3.ensures with_now in
-    c.with_counts.ensures _ with_collection
+    let with_items = app_arg c.in_ok-arg-3.field-0 c.in_ok-arg-4.field-0 c.flag-items.result _ (flag_rule (codes "items"))
+    c.flag-items.ensures.rule c.flag-items.ensures.local c.in_ok-arg-4.ensures with_collection in
+    c.with_counts.ensures _ with_items

@@ -13,4 +13,5 @@ returns-in-Ok-rows_files-clause-values c =
       rows = rw c.in-Ok.ensures.verb c.in-Ok-rows_files.ensures;
       count = rw c.in-Ok.ensures.verb c.is_counted.ensures;
       skip_faulty = rw c.in-Ok.ensures.verb c.skips_faulty.ensures;
+      items = rw c.in-Ok.ensures.verb c.writes_items.ensures;
     }

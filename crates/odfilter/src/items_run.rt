@@ -1,0 +1,104 @@
+//! Runs over a collection whose kept entities are written, a line each.
+use crate::plan_run::rows_of;
+use crate::progress::Progress;
+use crate::row_faults::RowFaults;
+use crate::run_end::report_end;
+use crate::streams::{Rows, Source};
+use collection_items::item_lines;
+use odata_filter::command_line::{Plan, RunRequest};
+use odata_filter::{Failure, ReadAllError, RunFault, read_whole, run_past_faults};
+use std::alloc::{AllocError, Global};
+use std::io::{Cursor, Write};
+
+/// Carries the plan out over rows that are lines, up to the first at fault.
+fn filter_lines<'p, W: Write>(
+    faults: &mut RowFaults<'_, '_>,
+    plan: &Plan<'p>,
+    document: &[u8],
+    rows: Source,
+    out: &mut W,
+) -> Result<(), Failure<'p>> {
+    let rows = Rows {
+        source: rows,
+        progress: faults.progress,
+    };
+    match run_past_faults(faults.rt.alloc(), plan, document, Some(rows), out, faults) {
+        Ok(_) => Ok(()),
+        Err(failure) => Err(failure),
+    }
+}
+
+/// All the bytes of the rows. A file is reported by its name, and standard input reports line 0.
+fn whole_rows<'p>(faults: &RowFaults<'_, '_>, plan: &Plan<'p>) -> Result<Vec<u8>, Failure<'p>> {
+    let rt = faults.rt;
+    let Some(mut rows) = rows_of(rt, plan, faults.progress) else {
+        return Err(Failure::RowsFile(plan.rows.unwrap_or("rows")));
+    };
+    match (read_whole(rt.alloc(), &mut rows), plan.rows) {
+        (Ok(bytes), _) => Ok(bytes),
+        (Err(ReadAllError::Memory), _) => Err(Failure::Rows(RunFault::Memory { line: 0 })),
+        (Err(ReadAllError::Read), Some(name)) => Err(Failure::RowsFile(name)),
+        (Err(ReadAllError::Read), None) => Err(Failure::Rows(RunFault::Read { line: 0 })),
+    }
+}
+
+/// Whether there is memory for the lines of a document of so many bytes: a copy of it, and lines while they grow.
+fn is_memory_left(alloc: Global, count: usize) -> bool {
+    let lines: Result<Vec<u8>, AllocError> = Vec::with_capacity(alloc, count.saturating_mul(6));
+    lines.is_ok()
+}
+
+/// The lines of a document's entities. Where there are none although there is memory for them, they are asked for again:
+/// what was refused once may be given then.
+fn lines_of(alloc: Global, document: &[u8]) -> Result<Vec<u8>, RunFault> {
+    if let Some(lines) = item_lines(alloc, document) {
+        return Ok(lines);
+    }
+    if !is_memory_left(alloc, document.len()) {
+        return Err(RunFault::Memory { line: 0 });
+    }
+    match item_lines(alloc, document) {
+        Some(lines) => Ok(lines),
+        None => Err(RunFault::NotACollection),
+    }
+}
+
+/// The entities of the collection that the rows are, a line each.
+fn entity_lines<'p>(faults: &RowFaults<'_, '_>, plan: &Plan<'p>) -> Result<Source, Failure<'p>> {
+    let document = whole_rows(faults, plan)?;
+    match lines_of(faults.rt.alloc(), document.as_slice()) {
+        Ok(lines) => Ok(Source::Held(Cursor::new(lines))),
+        Err(fault) => Err(Failure::Rows(fault)),
+    }
+}
+
+/// Writes the kept entities. The plan is carried out over no rows first: a fault of it is reported before any are read.
+fn write_kept<'p>(
+    faults: &mut RowFaults<'_, '_>,
+    plan: &Plan<'p>,
+    document: &[u8],
+) -> Result<(), Failure<'p>> {
+    let none = Source::Held(Cursor::new(Vec::new(faults.rt.alloc())));
+    let mut out = faults.rt.stdout();
+    filter_lines(faults, plan, document, none, &mut out)?;
+    let lines = entity_lines(faults, plan)?;
+    filter_lines(faults, plan, document, lines, &mut out)
+}
+
+/// Carries out a plan of a collection whose kept entities are written. Returns the exit status.
+#[inline(never)]
+pub fn write_entities(
+    rt: &HostRuntime,
+    request: &RunRequest<'_>,
+    plan: &Plan<'_>,
+    document: &[u8],
+    progress: &Progress<'_>,
+) -> u8 {
+    let mut faults = RowFaults::none(request.format, false, progress);
+    let ended = write_kept(&mut faults, plan, document);
+    progress.clear();
+    match ended {
+        Ok(()) => 0,
+        Err(failure) => report_end(rt, request, plan, document, failure),
+    }
+}
