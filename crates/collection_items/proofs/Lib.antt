@@ -1,1 +1,2 @@
+mod ItemLineSteps
 mod WalkSteps

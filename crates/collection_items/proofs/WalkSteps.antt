@@ -53,19 +53,19 @@ items_snoc : (items : List Data) (json : Data) → append_items (items_of items)
 items_snoc [] json = refl
 items_snoc (d ∷ ds) json = ap (item d) (items_snoc ds json)
 
-judged_snoc : (judge : ItemJudge) (items : List Data) (flags : List Bool) (json : Data) (kept : Bool) → AreJudged judge items flags → judge json kept → AreJudged judge (items ++ json ∷ []) (flags ++ kept ∷ [])
+judged_snoc : {K : Type 0} (judge : Data → K → Type 0) (items : List Data) (flags : List K) (json : Data) (kept : K) → AreJudged judge items flags → judge json kept → AreJudged judge (items ++ json ∷ []) (flags ++ kept ∷ [])
 judged_snoc judge [] [] json kept are is = (is, tt)
 judged_snoc judge [] (b ∷ bs) json kept are is = absurd are
 judged_snoc judge (d ∷ ds) [] json kept are is = absurd are
 judged_snoc judge (d ∷ ds) (b ∷ bs) json kept are is = (are.0, judged_snoc judge ds bs json kept are.1 is)
 
 -- the items before an offset where one may begin, each judged
-pub record JudgedUpTo (judge : ItemJudge) (line : List ℕ) (from place : ℕ) (flags : List Bool) : Type 0 where
+pub record JudgedUpTo {K : Type 0} (judge : Data → K → Type 0) (line : List ℕ) (from place : ℕ) (flags : List K) : Type 0 where
   pub items : List Data
   pub up_to : ItemsUpTo 125 line from place (λ found. found ≡ items_of items)
   pub judged : AreJudged judge items flags
 
-module _ (judge : ItemJudge) (line : List ℕ) (from place end : ℕ) (flags : List Bool) (kept : Bool) (so_far : JudgedUpTo judge line from place flags) (stands : ValueStands 125 line place end (λ json. judge json kept)) where
+module _ {K : Type 0} (judge : Data → K → Type 0) (line : List ℕ) (from place end : ℕ) (flags : List K) (kept : K) (so_far : JudgedUpTo judge line from place flags) (stands : ValueStands 125 line place end (λ json. judge json kept)) where
   -- the items up to the end of one more, if it may end there
   more : EndsHere line end → (items : List Data) × ItemsLead 125 (tokens_at fresh line from) (tokens_at after_value line end) (λ found. found ≡ items_of items) × AreJudged judge items (flags ++ kept ∷ [])
   more here =
@@ -128,7 +128,7 @@ value_last line from end next json read ends = brace_then 126 line from end next
 -- ---- the document
 
 -- the member of the name `value`, up to its array's end
-pub array_read : (judge : ItemJudge) (line : List ℕ) (from bracket end : ℕ) (flags : List Bool) → FindsArray line from bracket → (judged : JudgesArray judge line (bracket + 1) flags end)
+pub array_read : {K : Type 0} (judge : Data → K → Type 0) (line : List ℕ) (from bracket end : ℕ) (flags : List K) → FindsArray line from bracket → (judged : JudgesArray judge line (bracket + 1) flags end)
     → MembersRead 126 line from end (HasValue (array (items_of judged.items)))
 array_read judge line from bracket end flags finds judged =
     let json = array (items_of judged.items) in
@@ -150,8 +150,8 @@ whole_object text begin end P passed within is members last =
     whole_read text whole.json (ap (λ ts. converted of_json (json_value 127 ts)) started ∙ whole.is_read ∙ ap (λ left. Some (whole.json, left)) ended) in
     (whole.holds.0, text_read ∙ ap Some whole.holds.1, whole.holds.2)
 
-pub document_read : (judge : ItemJudge) (line : List ℕ) (root last : ℕ) (items : List Data) → PassesSpaces line 0 root → root < length line → get_or line root 32 ≡ 123
+pub document_read : (line : List ℕ) (root last : ℕ) (items : List Data) → PassesSpaces line 0 root → root < length line → get_or line root 32 ≡ 123
     → ReadsMembers 126 (tokens_at fresh line (root + 1)) (tokens_at after_value line last) (HasValue (array (items_of items))) → PassesSpaces line last (length line) → IsArrayIn line items
-document_read judge line root last items passed within opens members ends =
+document_read line root last items passed within opens members ends =
     let whole = whole_object line root last (HasValue (array (items_of items))) passed within opens members ends in
     (whole.0, whole.1, whole.2)

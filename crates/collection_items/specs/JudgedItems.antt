@@ -14,11 +14,11 @@ abbrev pub SaysNoMore : ItemJudge → ItemJudge → Type 0
 SaysNoMore old new = (json : Data) (kept : Bool) → new json kept → old json kept
 
 -- as many answers as items, each of which is said of its item
-abbrev pub AreJudged : ItemJudge → List Data → List Bool → Type 0
+abbrev pub AreJudged : {K : Type 0} → (Data → K → Type 0) → List Data → List K → Type 0
 AreJudged judge [] [] = Unit {0}
-AreJudged judge [] (kept ∷ flags) = ⊥
+AreJudged judge [] (said ∷ answers) = ⊥
 AreJudged judge (json ∷ items) [] = ⊥
-AreJudged judge (json ∷ items) (kept ∷ flags) = judge json kept × AreJudged judge items flags
+AreJudged judge (json ∷ items) (said ∷ answers) = judge json said × AreJudged judge items answers
 
 -- the last member of that name is this value
 abbrev pub HasValue : Data → Members → Type 0

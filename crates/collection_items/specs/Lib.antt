@@ -1,2 +1,3 @@
+pub mod ItemLines
 pub mod JudgedItems
 pub mod private

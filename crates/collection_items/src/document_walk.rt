@@ -63,7 +63,11 @@ pub fn judged_items<J: JudgesItems>(
 }
 
 /// The offset of the array that is the first member of the name `value`.
-fn array_after(document: &RoomyLine<'_>, from: usize, buffer: &mut DecodeBuffer) -> Option<usize>
+pub(crate) fn array_after(
+    document: &RoomyLine<'_>,
+    from: usize,
+    buffer: &mut DecodeBuffer,
+) -> Option<usize>
     requires { from ≤ length document.now }
     ensures { IfSome result (FindsArray document.now from) }
 {
@@ -152,7 +156,7 @@ fn judge_items<J: JudgesItems>(
 }
 
 /// The comma or the bracket after an item that ends there.
-fn after_item(document: &RoomyLine<'_>, end: usize) -> Option<After>
+pub(crate) fn after_item(document: &RoomyLine<'_>, end: usize) -> Option<After>
     requires { end ≤ length document.now }
     ensures { IfSome result (EndsItem document.now end) }
 {
@@ -178,7 +182,11 @@ fn after_member(document: &RoomyLine<'_>, end: usize) -> Option<After>
 }
 
 /// The offset after an object, of which a member ends there and none that follows has the name `value`.
-fn object_end(document: &RoomyLine<'_>, from: usize, buffer: &mut DecodeBuffer) -> Option<usize>
+pub(crate) fn object_end(
+    document: &RoomyLine<'_>,
+    from: usize,
+    buffer: &mut DecodeBuffer,
+) -> Option<usize>
     requires { from ≤ length document.now }
     ensures { (begin : ℕ) (json : Data) → MembersRead 126 document.now begin from (HasValue json)
         → IfSome result (λ to. (to ≤ length document.now) × ReadsMembers 126 (tokens_at fresh document.now begin)

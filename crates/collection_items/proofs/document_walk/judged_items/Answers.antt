@@ -31,6 +31,6 @@ returns-then-past_blanks-text g c =
     let long : c.past_blanks.result ≡ length d = c.if-past_blanks-text.true ∙ ap length c.text.ensures in
     let blank = subst (λ (k : ℕ). PassesSpaces d last k) long c.past_blanks.ensures in (
       judged.items,
-      document_read says d root last judged.items c.past_blanks-root.ensures within (other_default d root 123 here (λ e. omega arith)) ended.1 blank,
+      document_read d root last judged.items c.past_blanks-root.ensures within (other_default d root 123 here (λ e. omega arith)) ended.1 blank,
       judged.judged,
     )
