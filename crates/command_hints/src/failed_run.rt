@@ -8,7 +8,7 @@ pub struct FailedRun<'r, 'p, 'l> {
     /// The bytes of the schema file.
     pub document: &'r [u8],
     pub failure: &'r Failure<'p>,
-    /// The line of the row at fault, if it is at hand.
+    /// The line of the row at fault if it is at hand, or the first bytes of rows that are no collection or no lines.
     pub row: Option<&'l [u8]>,
 }
 

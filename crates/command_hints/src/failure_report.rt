@@ -1,4 +1,5 @@
 use crate::failed_run::FailedRun;
+use crate::file_form::form_advice;
 use crate::json_place::{JsonPlace, json_place};
 use crate::marked_text::marked_text;
 use crate::near_types::type_advice;
@@ -86,6 +87,9 @@ fn hints_without_filter(alloc: Global, query: &str) -> Result<Option<String>, Al
 
 /// What to say after the sentence about a schema that is no JSON.
 fn json_advice(alloc: Global, document: &[u8]) -> Result<Option<String>, AllocError> {
+    if let Some(form) = form_advice(document) {
+        return Ok(Some(String::from_str(alloc, form)?));
+    }
     match json_place(alloc, document) {
         JsonPlace::Xml => Ok(Some(String::from_str(
             alloc,

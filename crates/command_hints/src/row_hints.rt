@@ -1,5 +1,6 @@
 //! What to say of a row at fault beyond the sentence: its line, the value found, the type wanted.
 use crate::failed_run::FailedRun;
+use crate::file_form::form_advice;
 use crate::json_place::{JsonPlace, json_place};
 use crate::row_value::{shown_value, wanted_type};
 use csdl_schema::Schema;
@@ -74,17 +75,30 @@ fn value_advice(
     }
 }
 
-/// What a line that is no JSON shows: that its file is compressed or no text, or where JSON ends in it.
+/// What a line that is no JSON shows: what its file is, or where JSON ends in it.
 fn line_advice(alloc: Global, line: &[u8]) -> Result<String, AllocError> {
-    if line.starts_with(b"\x1f\x8b") {
-        return String::from_str(alloc, " The file is compressed: gzip -dc reads it.");
-    }
-    if line.contains(&0) {
-        return String::from_str(alloc, " The file is no text.");
+    if let Some(form) = form_advice(line) {
+        return Ok(format!(in alloc; " {form}")?);
     }
     match json_place(alloc, line) {
         JsonPlace::At { column, .. } => Ok(format!(in alloc; " JSON ends at column {column}.")?),
         _ => Ok(String::new(alloc)),
+    }
+}
+
+/// What the first bytes of the rows show, if these are at hand.
+fn rows_form(run: &FailedRun<'_, '_, '_>) -> Option<&'static str> {
+    form_advice(run.row?)
+}
+
+/// Of rows that are no collection.
+fn collection_advice(
+    alloc: Global,
+    run: &FailedRun<'_, '_, '_>,
+) -> Result<Option<String>, AllocError> {
+    match rows_form(run) {
+        Some(form) => Ok(Some(String::from_str(alloc, form)?)),
+        None => Ok(None),
     }
 }
 
@@ -110,12 +124,15 @@ pub fn row_advice(
     report: &Report<'_>,
 ) -> Result<Option<String>, AllocError> {
     let Some(line) = run.line() else {
-        return Ok(None);
+        return collection_advice(alloc, run);
     };
     let row = row_in_words(alloc, run, line)?;
     match report.class {
         FaultClass::Row => Ok(Some(value_advice(alloc, run, report.text, row.as_str())?)),
         FaultClass::Json => Ok(Some(json_advice(alloc, run, row.as_str())?)),
-        _ => Ok(Some(format!(in alloc; "The row is {}.", row.as_str())?)),
+        _ => Ok(Some(match rows_form(run) {
+            Some(form) => format!(in alloc; "The row is {}. {form}", row.as_str())?,
+            None => format!(in alloc; "The row is {}.", row.as_str())?,
+        })),
     }
 }

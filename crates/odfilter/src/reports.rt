@@ -2,10 +2,13 @@
 use crate::fault_lines::{report, report_memory};
 use command_hints::{FailedRun, accepted_json, failure_hints, failure_json};
 use odata_filter::command_line::{Hints, Plan, Verb};
-use odata_filter::{Ended, Failure, LineReader, RunFault};
+use odata_filter::{Ended, Failure, LineReader, RunFault, read_whole};
 use std::alloc::AllocError;
 use std::fs::File;
-use std::io::IsTerminal;
+use std::io::{IsTerminal, Read};
+
+/// So many bytes of a file show what it is.
+const FIRST_BYTES: u64 = 512;
 
 /// A plan that was carried out over one file of rows, and how that ended.
 #[derive(Clone, Copy)]
@@ -36,14 +39,26 @@ fn line_of(rt: &HostRuntime, name: &str, line: u64) -> Option<Vec<u8>> {
     Some(copy)
 }
 
-/// A copy of the line of the row at fault, if it stands in a file.
+/// A copy of the first bytes of a file of rows.
+fn first_bytes(rt: &HostRuntime, name: &str) -> Option<Vec<u8>> {
+    let file = File::open(rt, name).ok()?;
+    read_whole(rt.alloc(), &mut file.take(FIRST_BYTES)).ok()
+}
+
+/// A copy of the line of the row at fault, or of the first bytes of rows that are no collection or no lines, if these
+/// stand in a file.
 fn faulty_row(rt: &HostRuntime, plan: &Plan<'_>, failure: &Failure<'_>) -> Option<Vec<u8>> {
-    let (Some(name), false) = (plan.rows, plan.collection) else {
-        return None;
-    };
+    let name = plan.rows?;
     match failure {
         Failure::Rows(RunFault::Row { line, .. } | RunFault::Json { line }) => {
-            line_of(rt, name, *line)
+            if plan.collection {
+                None
+            } else {
+                line_of(rt, name, *line)
+            }
+        }
+        Failure::Rows(RunFault::NotACollection | RunFault::LineTooLong { .. }) => {
+            first_bytes(rt, name)
         }
         _ => None,
     }
