@@ -2,11 +2,15 @@
 encodings and collations.
 """
 import json
+import os
+import re
 import sqlite3
+import subprocess
 import time
 
 import odfilter
-from sql_engines import Libpq, Postgres, Refused
+from built_library import MODULE
+from sql_engines import PROGRAMS, Libpq, Postgres, Refused
 
 INNER = {"$Kind": "ComplexType", "n": {"$Type": "Edm.Int32"}}
 ITEM = {"ID": {"$Type": "Edm.Int32"}, "A": {}, "B": {}, "At": {"$Type": "Edm.DateTimeOffset"}}
@@ -28,6 +32,8 @@ PLANTED = [
     ("*", "bigint", "numeric", "numeric", "At gt 2019-06-01T00:00:00Z"),
     ("+", "numeric", "integer", "numeric", "At gt 2019-06-01T00:00:00Z"),
 ]
+# filters with the least number of 64 bits, whose digits alone are none
+LEAST = ["ID gt -9223372036854775808", "-9223372036854775808 lt ID", "ID in (-9223372036854775808,1)"]
 # filters over two texts, of which a column's own collation would take another view
 COLLATED = [
     "startswith(A,B)", "endswith(A,'LO')", "contains(A,'EL')", "A eq 'HELLO'", "A in ('HELLO','x')", "A lt 'hello'",
@@ -58,6 +64,17 @@ def checks_of_compiled(postgres):
         yield f"compiled: {text[:40]}", is_well, (found, seconds)
 
 
+def checks_of_notice(postgres):
+    """postgresql.sql says what to do where `jit` is on."""
+    words = [f"{PROGRAMS}/psql", "-qX", "-v", "ON_ERROR_STOP=1", "-h", postgres.room, "-U", "filters", "-d", "postgres"]
+    for jit in ("on", "off"):
+        env = {**os.environ, "PGOPTIONS": f"-c client_min_messages=notice -c jit={jit}"}
+        path = f"{MODULE}/odfilter/postgresql.sql"
+        done = subprocess.run([*words, "-f", path], env=env, capture_output=True, text=True, timeout=60, check=False)
+        is_said = "SET LOCAL jit = off" in done.stderr
+        yield f"the functions are made with jit {jit}", done.returncode == 0 and is_said == (jit == "on"), done
+
+
 def checks_of_planted(postgres):
     """What is planted writes what its caller may read; none is called."""
     postgres.rows("CREATE ROLE eve; GRANT CREATE, USAGE ON SCHEMA public TO eve; CREATE TABLE loot (who text)")
@@ -77,6 +94,15 @@ def checks_of_planted(postgres):
         postgres.rows(f"TRUNCATE loot; RESET search_path; DROP OPERATOR public.{operator} ({left}, {right})")
         is_well = found == [(str(int(verdict(text))),)] and loot == []
         yield f"planted: {operator} of {left} and {right}", is_well, (found, loot)
+
+
+def checks_of_written_values(postgres):
+    """Values that a driver writes into the text, in parentheses, as docs/PYTHON.md says."""
+    for text in LEAST:
+        keep = condition(text, "postgresql")
+        written = re.sub(r"\$(\d+)", lambda found, values=keep.parameters: f"({values[int(found[1]) - 1]})", keep.text)
+        found = postgres.rows(f"SELECT count(*) FROM items AS t WHERE {written}")
+        yield f"written into the text: {text}", found == [("1",)] and verdict(text), (written, found)
 
 
 def checks_of_encodings(postgres):
@@ -114,7 +140,9 @@ def attacks(_):
     try:
         postgres.rows(odfilter.postgresql_functions())
         yield from checks_of_compiled(postgres)
+        yield from checks_of_notice(postgres)
         yield from checks_of_planted(postgres)
+        yield from checks_of_written_values(postgres)
         yield from checks_of_encodings(postgres)
     finally:
         postgres.close()

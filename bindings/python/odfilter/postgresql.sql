@@ -1,5 +1,6 @@
 -- The functions that conditions for PostgreSQL call: run this file once in each database, whose encoding is UTF8. In any
 -- other it ends with an error and makes nothing. It can be run again.
+-- Ask conditions in transactions that begin with `SET LOCAL jit = off`: else PostgreSQL may compile one for seconds.
 -- All are immutable, so an index may be over them. Each returns null where an argument is null, and reads no table.
 -- None calls what another schema of a session's search path has. Those of plpgsql set the path, and name what they call
 -- with its schema. Those of SQL are bound when they are made, each name with its schema: PostgreSQL can write the body
@@ -10,6 +11,9 @@ IF pg_catalog.getdatabaseencoding() OPERATOR(pg_catalog.<>) 'UTF8'::pg_catalog.n
   RAISE EXCEPTION USING ERRCODE = 'feature_not_supported', MESSAGE = pg_catalog.concat(
     'conditions of odfilter need a database whose encoding is UTF8, and that of ', pg_catalog.current_database(),
     ' is ', pg_catalog.getdatabaseencoding());
+END IF;
+IF pg_catalog.current_setting('jit') OPERATOR(pg_catalog.=) 'on'::text THEN
+  RAISE NOTICE 'jit is on: ask conditions of odfilter in transactions that begin with SET LOCAL jit = off';
 END IF;
 EXECUTE $functions$
 CREATE SCHEMA IF NOT EXISTS odf;
