@@ -19,6 +19,12 @@ use std::io::{Chain, Read, Repeat, Sink, Take, Write};
 /// A text, another one after it, and blanks, in the manner of a device.
 type Rows<'b> = Giving<Chain<Chain<&'b [u8], &'b [u8]>, Take<Repeat>>>;
 
+/// The rows of a question that has these numbers.
+fn rows_of<'b>(first: &'b [u8], second: &'b [u8], numbers: &str) -> Rows<'b> {
+    let blanks = io::repeat(b' ').take(number_at(numbers, 6) as u64);
+    cut(first.chain(second).chain(blanks), manner_at(numbers, 0))
+}
+
 /// Appends how many reads came, how many bytes were given, how many were asked for at most, and whether a read came
 /// early.
 fn push_reads(out: &mut String, reader: &Watched<'_, Rows<'_>>) -> Result<(), AllocError> {
@@ -63,10 +69,8 @@ pub(crate) fn push_devices(
 ) -> Result<(), AllocError> {
     let first = Vec::from_slice(alloc, question.bytes)?;
     let second = Vec::from_slice(alloc, question.second.as_bytes())?;
-    let blanks = io::repeat(b' ').take(number_at(question.third, 6) as u64);
-    let rows = first.as_slice().chain(second.as_slice()).chain(blanks);
     let shared = Shared::new();
-    let rows = cut(rows, manner_at(question.third, 0));
+    let rows = rows_of(first.as_slice(), second.as_slice(), question.third);
     let mut reader = Watched::new(rows, &shared);
     let mut writer = Taking::new(alloc, manner_at(question.third, 3), &shared, 1);
     push_run_over(out, checked, now, &mut reader, &mut writer)?;
@@ -146,32 +150,6 @@ fn plan_of<'h>(held: &Held<'h>, word: &str) -> Plan<'h> {
     }
 }
 
-/// Standard output and standard error.
-#[derive(Drop)]
-struct Streams<'a> {
-    out: Taking<'a>,
-    err: Taking<'a>,
-}
-
-/// The status of a run of the program's work over what is held, into both streams.
-fn status_of<R: Read + Drop>(
-    alloc: Global,
-    held: &Held<'_>,
-    word: &str,
-    rows: R,
-    both: &mut Streams<'_>,
-) -> u8 {
-    let plan = plan_of(held, word);
-    run(
-        alloc,
-        &plan,
-        held.document,
-        Some(rows),
-        &mut both.out,
-        &mut both.err,
-    )
-}
-
 /// Appends the status of a run of the program's work over devices, what became of standard output and standard error,
 /// and the order of their calls: 1 and 2 are a write and a flush of standard output, 3 and 4 those of standard error.
 fn push_work(
@@ -183,16 +161,22 @@ fn push_work(
     let text = Vec::from_slice(alloc, question.bytes)?;
     let rows = cut(text.as_slice(), manner_at(question.third, 0));
     let shared = Shared::new();
-    let mut both = Streams {
-        out: Taking::new(alloc, manner_at(question.third, 3), &shared, 1),
-        err: Taking::new(alloc, manner_at(question.third, 7), &shared, 3),
-    };
-    let status = status_of(alloc, held, question.word, rows, &mut both);
+    let mut output = Taking::new(alloc, manner_at(question.third, 3), &shared, 1);
+    let mut errors = Taking::new(alloc, manner_at(question.third, 7), &shared, 3);
+    let plan = plan_of(held, question.word);
+    let status = run(
+        alloc,
+        &plan,
+        held.document,
+        Some(rows),
+        &mut output,
+        &mut errors,
+    );
     write!(out, "{status}, {}", shared.calls.get())?;
-    push_writes(out, &both.out)?;
-    push_writes(out, &both.err)?;
-    push_taken(out, alloc, &both.out)?;
-    push_taken(out, alloc, &both.err)
+    push_writes(out, &output)?;
+    push_writes(out, &errors)?;
+    push_taken(out, alloc, &output)?;
+    push_taken(out, alloc, &errors)
 }
 
 /// Appends what comes next of a reader of lines: of a line its length, and where it is short its text.
@@ -220,10 +204,8 @@ fn push_lines_of(
 ) -> Result<(), AllocError> {
     let first = Vec::from_slice(alloc, question.bytes)?;
     let second = Vec::from_slice(alloc, question.second.as_bytes())?;
-    let blanks = io::repeat(b' ').take(number_at(question.third, 6) as u64);
-    let rows = first.as_slice().chain(second.as_slice()).chain(blanks);
     let shared = Shared::new();
-    let rows = cut(rows, manner_at(question.third, 0));
+    let rows = rows_of(first.as_slice(), second.as_slice(), question.third);
     let mut lines = LineReader::new(alloc, Watched::new(rows, &shared));
     write!(out, "{}", lines.held())?;
     for _ in 0..number_at(question.third, 3) {
