@@ -26,6 +26,8 @@ FILTERS = [
     ("lists in lists", "b in (true,false or true and true eq " * 64 + "b" + ")" * 64),
     ("arithmetic in parentheses", "(1 add 2 mul - " * 64 + "n" + ")" * 64 + " eq 1"),
     ("any in any", "".join(f"t/any(x{n}:" for n in range(64)) + "x0 eq s" + ")" * 64),
+    ("all after operators", "".join(f"false or b and b eq b ge not t/all(x{n}:" for n in range(64)) + "b" + ")" * 64),
+    ("lists after operators", "false or b and b eq b ge not b in (" * 64 + "b" + ")" * 64),
     ("all in not", "".join(f"not t/all(x{n}:b ne " for n in range(63)) + "b" + ")" * 63),
 ]
 # what stands around a truth value when filters are drawn, where # is a number of its own

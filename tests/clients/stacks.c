@@ -77,6 +77,7 @@ static void into_sql(void)
 static void *use_it(void *nothing)
 {
     odfilter_handle *judge = new_judge(), *own = new_judge_of(filter);
+    odfilter_bytes lines = {row, strlen(row)};
     odfilter_answer answer;
     uint32_t verdict;
     check("its canonical text", odfilter_canonical(filter, room, &answer) == ODFILTER_OK && answer.length > 0);
@@ -88,6 +89,7 @@ static void *use_it(void *nothing)
     check("a row is judged", judged(filter, judge, row, &verdict) == ODFILTER_OK);
     check("a bound", odfilter_set_bound(judge, 1000000) == ODFILTER_OK);
     check("a row within a bound", judged(filter, judge, row, &verdict) == ODFILTER_OK);
+    check("a line", odfilter_filter_lines(filter, judge, lines, room, &answer) == ODFILTER_OK && answer.rows == 1);
     check("the first by the filter's judge", judged_next(own, row, &verdict) == ODFILTER_OK);
     check("the next by it", judged_next(own, row, &verdict) == ODFILTER_OK);
     odfilter_free(&own);
@@ -182,16 +184,19 @@ static void chain_of(const struct chain *chain, size_t groups)
     is_answered(chain->before[0] ? chain->before : chain->after, chain->status);
 }
 
-/* as many as the limits let in, each in the one before: groups with up to five levels between them, and calls */
+/* as many as the limits let in, each in the one before: groups with up to six levels between them, and calls */
 static void nested(void)
 {
     static const char *const before[] = {"not (", "true and (", "false or true and true eq (", "true in (",
                                          "false or true and true eq true in (",
-                                         "false or true and true eq true ge true in ("};
+                                         "false or true and true eq true ge true in (",
+                                         "false or true and true eq true ge not true in (",
+                                         "false or true and true eq true ge not not (",
+                                         "false or true and true eq true ge not contains(Name,Name) in ("};
     size_t number, most = limit < LIMIT ? OPEN / 4 : OPEN;
     for (number = 0; number < sizeof before / sizeof *before; number++) {
         begin("true");
-        put_often(before[number], ")", 12, 1, most);
+        put_often(before[number], ")", 19, 1, most);
         is_answered(before[number], ODFILTER_OK);
     }
     begin("1");
@@ -250,14 +255,14 @@ static void at_the_limit(void)
 }
 
 /* so many lambda operators in one another, each after this */
-static void lambdas(const char *after, size_t times)
+static void lambdas(const char *after, const char *operator, size_t times)
 {
     size_t number;
-    char before[64];
+    char before[80];
     begin("true");
     for (number = 0; number < times; number++) {
-        snprintf(before, sizeof before, "%sTags/any(v%d:", after, (int)number);
-        put_around(before, ")", 14, 1);
+        snprintf(before, sizeof before, "%sTags/%s(v%d:", after, operator, (int)number);
+        put_around(before, ")", 18, 1);
     }
     is_answered("lambda operators", ODFILTER_OK);
 }
@@ -339,9 +344,11 @@ int main(int count, char **words)
         chain_of(&chains[number], limit < LIMIT ? 8 : OPEN - 2);
     }
     nested();
-    lambdas("", OPEN);
-    lambdas("false or true and true eq ", OPEN);
-    lambdas("false or true and true eq ", 25);
+    lambdas("", "any", OPEN);
+    lambdas("false or true and true eq ", "any", OPEN);
+    lambdas("false or true and true eq ", "any", 25);
+    lambdas("false or true and true eq true ge ", "any", OPEN);
+    lambdas("false or true and true eq true ge not ", "all", OPEN);
     if (limit == LIMIT)
         at_the_limit();
     mixtures(300, 400);
