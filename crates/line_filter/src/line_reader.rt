@@ -205,7 +205,9 @@ impl<R: Read> LineReader<R> {
         }
     }
 
-    /// Reads once. What was kept so far must have been written by then: nothing of it is held back.
+    /// Reads once. What was kept so far must have been written by then: nothing of it is held back. It stands apart, so
+    /// that the code of a line that is there already stays small.
+    #[inline(never)]
     pub(crate) fn read_more<S: Reads<R>>(&mut self, held_back: &[u8])
         requires none_held_back { held_back.now ≡ [] }
         requires open { self.old.course ≡ Course.Open }
