@@ -1,6 +1,8 @@
 /* Room of each length, from none to one byte more than is wanted: a text is written whole or not at all. */
 #include "checks.h"
 
+#define ITEM_TYPE "entity Mini.Item\n  Active Edm.Boolean\n  ID Edm.Int32\n  Name Edm.String\n  Part Mini.Part\n"
+
 static odfilter_handle *schema, *type, *filter, *judge;
 
 /* the calls that write a text, each with the same arguments */
@@ -12,6 +14,16 @@ static uint32_t canonical(odfilter_buffer room, odfilter_answer *answer)
 static uint32_t explain(odfilter_buffer room, odfilter_answer *answer)
 {
     return odfilter_explain(filter, room, answer);
+}
+
+static uint32_t types_of_schema(odfilter_buffer room, odfilter_answer *answer)
+{
+    return odfilter_types(schema, room, answer);
+}
+
+static uint32_t one_type(odfilter_buffer room, odfilter_answer *answer)
+{
+    return odfilter_types(type, room, answer);
 }
 
 static uint32_t path(odfilter_buffer room, odfilter_answer *answer)
@@ -128,6 +140,8 @@ int main(void)
     type = type_of(schema, "Mini.Item");
     filter = filter_of(type, "((Active)) AND ID  eq +01 and Name ne 'O''Neil'");
     judge = new_judge();
+    each_length("types", types_of_schema, ITEM_TYPE "complex Mini.Part\n  Size Edm.Byte\n");
+    each_length("a type", one_type, ITEM_TYPE);
     each_length("canonical", canonical, "Active and ID eq 1 and Name ne 'O''Neil'");
     odfilter_free(&filter);
     filter = filter_of(type, FILTER);
