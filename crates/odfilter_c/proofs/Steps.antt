@@ -44,4 +44,4 @@ pub use Rattle.odfilter_c.proofs.c_types.Buffer.TheLaws.{lowers as buffer_lowers
 pub use Rattle.handle_calls.specs.declared.handle.Handle.{Handle}
 pub use Rattle.handle_calls.specs.declared.owned.Owned.{Owned}
 pub use Rattle.handle_calls.specs.declared.answer.Answer.{Answer}
-pub use Rattle.odfilter_c.proofs.Walks.{HasNull, in_rest, trues, good, all_true, back, hold, unchanged, fpack2, fpack3, compares, stands, tested, closes, hands, inside, ends0, ends1, ends2}
+pub use Rattle.odfilter_c.proofs.Walks.{HasNull, in_rest, trues, good, all_true, back, hold, unchanged, fpack2, fpack3, compares, stands, tested, closes, hands, inside, ends0, ends1, ends2, ends3}

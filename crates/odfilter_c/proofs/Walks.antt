@@ -165,7 +165,7 @@ module _ {M : Type 1} {𝓤 : Ura M} {𝓛 : Logic 𝓤} {K : Type 0} {Γ : List
     inside t Kf n ms = step (λ s. record { prf = s.prf })
 
   module _ {E : Env 𝓤 H} where
-    -- the value of a call is stored, goes through no, one or two locals, and is returned
+    -- the value of a call is stored, goes through some locals, and is returned
     pub ends0 : K → (C : Calls 𝓤 H) (Λ : Loops 𝓤 H) (Kf : Val → SProp 𝓤) {n : ℕ} {v : Val} → Takes 𝓛 E n Γ v → Takes 𝓛 E 0 Γ v → (let Γ₁ = filled 𝓛 E n Γ v in let Γ₀ = filled 𝓛 E 0 Γ₁ v in
         Room 𝓛 E n Γ → Has 𝓛 E n Γ₁ v → Room 𝓛 E 0 Γ₁ → Has 𝓛 E 0 Γ₀ v
         → Step K 𝓛 Γ₀ (frees E (prop (Kf v))) Γ (settles E (place n []) v (passing_block 𝓛 C Λ E Kf n [])))
@@ -194,3 +194,15 @@ module _ {M : Type 1} {𝓤 : Ura M} {𝓛 : Logic 𝓤} {K : Type 0} {Γ : List
         assigns_last t (of_opd t (get t has)) (from t (stop t)) (init t (cell m _) room-m takes-m) $ exec t C Λ E (assign (place k []) (rv_opd (copy (place m [])))) (passing 𝓛 C Λ E Kf k []) $
         assigns_last t (of_opd t (get t has-m)) (from t (stop t)) (init t (cell k _) room-k takes-k) $ exec t C Λ E (seq (assign (place 0 []) (rv_opd (copy (place k [])))) return) (at_ret E Kf) $
         assigns t (of_opd t (get t has-k)) (from t (stop t)) (init t (cell 0 _) room-0 takes-0) $ returns t (look_at t 0 has-0) $ s)
+
+    pub ends3 : K → (C : Calls 𝓤 H) (Λ : Loops 𝓤 H) (Kf : Val → SProp 𝓤) (m k j : ℕ) {n : ℕ} {v : Val} → Takes 𝓛 E n Γ v → Takes 𝓛 E m Γ v → Takes 𝓛 E k Γ v → Takes 𝓛 E j Γ v → Takes 𝓛 E 0 Γ v
+        → (let Γ₁ = filled 𝓛 E n Γ v in let Γ₂ = filled 𝓛 E m Γ₁ v in let Γ₃ = filled 𝓛 E k Γ₂ v in let Γ₄ = filled 𝓛 E j Γ₃ v in let Γ₀ = filled 𝓛 E 0 Γ₄ v in
+        Room 𝓛 E n Γ → Has 𝓛 E n Γ₁ v → Room 𝓛 E m Γ₁ → Has 𝓛 E m Γ₂ v → Room 𝓛 E k Γ₂ → Has 𝓛 E k Γ₃ v → Room 𝓛 E j Γ₃ → Has 𝓛 E j Γ₄ v → Room 𝓛 E 0 Γ₄ → Has 𝓛 E 0 Γ₀ v
+        → Step K 𝓛 Γ₀ (frees E (prop (Kf v))) Γ (settles E (place n []) v (passing_block 𝓛 C Λ E Kf n (m ∷ k ∷ j ∷ []))))
+    unfolding passing passing_block
+    ends3 t C Λ Kf m k j {n} takes takes-m takes-k takes-j takes-0 room has room-m has-m room-k has-k room-j has-j room-0 has-0 = step (λ s.
+        land_last t (from t (stop t)) (init t (cell n Γ) room takes) $ exec t C Λ E (assign (place m []) (rv_opd (copy (place n [])))) (passing 𝓛 C Λ E Kf m (k ∷ j ∷ [])) $
+        assigns_last t (of_opd t (get t has)) (from t (stop t)) (init t (cell m _) room-m takes-m) $ exec t C Λ E (assign (place k []) (rv_opd (copy (place m [])))) (passing 𝓛 C Λ E Kf k (j ∷ [])) $
+        assigns_last t (of_opd t (get t has-m)) (from t (stop t)) (init t (cell k _) room-k takes-k) $ exec t C Λ E (assign (place j []) (rv_opd (copy (place k [])))) (passing 𝓛 C Λ E Kf j []) $
+        assigns_last t (of_opd t (get t has-k)) (from t (stop t)) (init t (cell j _) room-j takes-j) $ exec t C Λ E (seq (assign (place 0 []) (rv_opd (copy (place j [])))) return) (at_ret E Kf) $
+        assigns t (of_opd t (get t has-j)) (from t (stop t)) (init t (cell 0 _) room-0 takes-0) $ returns t (look_at t 0 has-0) $ s)

@@ -71,9 +71,9 @@ borrowed_buffer l s = if_non_null s.at ((MutSlice static l.lifetime u8).own_val
     (slice_val (block_of s.at, count_of s.at) s.length ∷ []))
 
 abbrev pub left_buffer : Loan → Buffer → List ℕ → Fml
-left_buffer l s xs = fsep
+left_buffer l s xs = if_non_null s.at (fsep
     (fsep (finally u8 l.buffer_name xs) (feq ℕ (length xs) (length l.buffer)))
-    (fbor l.lifetime (Held u8 (length l.buffer) (block_of s.at) (count_of s.at) l.buffer_name))
+    (fbor l.lifetime (Held u8 (length l.buffer) (block_of s.at) (count_of s.at) l.buffer_name)))
 
 -- the variable of a handle that is made
 abbrev pub borrowed_made : Loan → Ptr → Fml
@@ -101,6 +101,11 @@ UnlessLong count N P = (count ≡ 0 → P) × (0 < count → N)
 abbrev pub of_bytes : Ptr → ℕ → List ℕ → Type 0 → (List ℕ → Type 0) → Type 0
 of_bytes (block_ptr b o) count bytes N P = P bytes
 of_bytes null_ptr count bytes N P = UnlessLong count N (P [])
+
+-- P of a buffer and of what is written there; at a null address it has no bytes, and with another length than 0 N holds
+abbrev pub of_buffer : Ptr → ℕ → List ℕ → List ℕ → Type 0 → (List ℕ → List ℕ → Type 0) → Type 0
+of_buffer (block_ptr b o) count old new N P = P old new
+of_buffer null_ptr count old new N P = UnlessLong count N ((last : List ℕ) × P [] last)
 
 -- P, or N where the address is null
 abbrev pub of_optional : Ptr → Type 0 → Type 0 → Type 0
