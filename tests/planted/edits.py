@@ -11,8 +11,6 @@ from .sources import constants_in, text_of
 
 # the folders of a crate that hold edits; `rt ci` tries those of the first by itself
 FOLDERS = ("must-fail", "planted-bugs")
-# the crates that have all of theirs there
-TRIED_BY_RT = {"handle_calls", "odata_eval", "odata_filter"}
 
 
 class FaultyEdit(Exception):
