@@ -1,5 +1,6 @@
 """Operators and functions that another role plants in the first schema of a search path: for tests/sql, which sees that
-conditions for PostgreSQL, and the functions that these call, are bound to none of them.
+conditions for PostgreSQL, and the functions that these call, are bound to none of them; and that docs/SQL.md lists what
+the texts name.
 
 Planted is each operator and each function that the texts name, over all pairs of the types that occur, and over types
 that take any value. A view over a condition is recorded as depending on what PostgreSQL found for it, whether a row
@@ -9,6 +10,7 @@ import contextlib
 import itertools
 import re
 
+from built_library import TOP
 from sql_engines import Libpq, Refused
 from sql_wrong import changed, replaced
 
@@ -35,6 +37,18 @@ def named_in(text):
     text = re.sub(r"--.*|'(?:[^']|'')*'|\"(?:[^\"]|\"\")*\"|::|:=", " ", text)
     functions = {name for name in re.findall(r"(\w+)\(", text) if not re.fullmatch(r"[ms]\d+", name)}
     return set(re.findall(r"[-+*/<>=~!@#%^&|`?]+", text)), functions - WORDS
+
+
+def ask_listed(tally, dialect, texts):
+    """The functions that texts of a dialect name are those that docs/SQL.md lists, beside those of `jsonb` and `odf`."""
+    with open(f"{TOP}/docs/SQL.md", encoding="utf-8") as page:
+        [row] = [line for line in page if line.startswith("| functions |")]
+    listed = set(re.findall(r"`(\w+)`", row.split("|")[2 if dialect == "postgresql" else 3])) - {"jsonb", "odf"}
+    # a table of the text itself has its columns in parentheses
+    functions = named_in(re.sub(r"\b(odf\.|jsonb_)\w+\(|\bw\(n, i, a\)", "(", " ".join(texts)))[1]
+    tally.count["asked"] += 1
+    if functions != listed:
+        tally.wrong("FUNCTIONS OF SQL.md", dialect, sorted(functions ^ listed))
 
 
 def planting(operators, functions):
