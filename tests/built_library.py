@@ -1,5 +1,5 @@
-"""The C library as tests and benches take it: the shared one, that for ARM64, and the module of WebAssembly. Each is
-the one that a variable names, or it is built."""
+"""The C library as tests and benches take it: the shared one, those for ARM64 and Windows, and the module of
+WebAssembly. Each is the one that a variable names, or it is built."""
 import os
 import subprocess
 
@@ -26,13 +26,22 @@ def has_module(room):
 
 
 def has_arm64(room):
-    """The same of the folder with the library for ARM64: what ODFILTER_ARM64 names, or one built here, of the module
-    of the proved build for x86-64 without a proof more."""
-    if "ODFILTER_ARM64" not in os.environ:
+    """The same of the folder with the library for ARM64, which ODFILTER_ARM64 names."""
+    return has_target(room, "ODFILTER_ARM64", "aarch64-unknown-linux-gnu")
+
+
+def has_windows(room):
+    """The same of the folder with the library for Windows, which ODFILTER_WINDOWS names."""
+    return has_target(room, "ODFILTER_WINDOWS", "x86_64-w64-windows-gnu")
+
+
+def has_target(room, variable, target):
+    """The folder that the variable names, or one with the library for that target, built of the module of the proved
+    build for x86-64 without a proof more."""
+    if variable not in os.environ:
         subprocess.run([f"{TOP}/bindings/c/build", f"{room}/kit"], check=True)
-        words = ["--target", "aarch64-unknown-linux-gnu", f"{room}/arm64"]
         env = {**os.environ, "MODULE": f"{TOP}/crates/odfilter_c/out/libodfilter_c.bc"}
-        subprocess.run([f"{TOP}/bindings/c/build", *words], check=True, env=env)
-        os.environ["ODFILTER_ARM64"] = f"{room}/arm64"
-    os.environ["ODFILTER_ARM64"] = os.path.realpath(os.environ["ODFILTER_ARM64"])
-    return os.environ["ODFILTER_ARM64"]
+        subprocess.run([f"{TOP}/bindings/c/build", "--target", target, f"{room}/{target}"], check=True, env=env)
+        os.environ[variable] = f"{room}/{target}"
+    os.environ[variable] = os.path.realpath(os.environ[variable])
+    return os.environ[variable]

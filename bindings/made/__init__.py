@@ -7,7 +7,7 @@ calls and structs too.
 import json
 import os
 
-from . import csharp, go, java, node, rust, wasm
+from . import csharp, go, java, node, rust, wasm, windows
 from .header import Header
 
 __all__ = ["TOP", "files"]
@@ -19,6 +19,6 @@ def files():
     with open(f"{TOP}/include/odfilter.json", encoding="utf-8") as file:
         header = Header(json.load(file))
     made = {}
-    for language in (go, node, java, csharp, rust, wasm):
+    for language in (go, node, java, csharp, rust, wasm, windows):
         made |= {f"bindings/{path}": text for path, text in language.files(header).items()}
     return made
