@@ -9,7 +9,7 @@ With --type, which may be repeated, the schema has the types that these entity t
 complex types, enumerations and type definitions of their properties. So a large document gives a small schema;
 odfilter reads at most 1,048,576 bytes and 4,096 types. Without --type all types are kept.
 
-A filter may lead over navigation properties to entity types that are kept. --expand Customer/Orders keeps those along
+A filter may traverse navigation properties to entity types that are kept. --expand Customer/Orders keeps those along
 this path from a named type, --depth N all within N steps. A navigation property whose entity type is not kept stays
 declared; odfilter refuses a filter that names it with TypeLeftOut.
 
