@@ -114,6 +114,7 @@ EVALUATED = [(name, on_row(text)[0], E0, wanted) for name, text, wanted in (
 SCHEMAS = {"items.json": ITEMS}
 OF_ITEMS = ["--schema", "items.json", "--type", "Mini.Item"]
 FIRST = ["filter", *OF_ITEMS, "--filter", "Active and ID eq 1 and Name eq 'a'"]
+LISTED = "entity Mini.Item\n  Active Edm.Boolean\n  ID Edm.Int32\n  Name Edm.String\n"
 # runs of the program: the name, the words, standard input, and what is written, reported and returned
 RUNS = [
     ("check", ["check", *OF_ITEMS, "--filter=-(5) lt 0"], "", ("accepted\n- 5 lt 0\n", "", 0)),
@@ -123,6 +124,9 @@ RUNS = [
     ("filter_of_fault", FIRST, "{}", ("", "row 1 Missing Active\n", 4)),
     ("filter_of_collection", ["filter", *OF_ITEMS, "--filter", "ID eq 1", "--collection"], '{"value":[%s]}' % A.strip(),
      ("0\n", "", 0)),
+    ("filter_of_items", ["filter", *OF_ITEMS, "--filter", "ID eq 1", "--collection", "--items"],
+     '{"value":[%s]}' % A.strip(), (A, "", 0)),
+    ("types", ["types", *OF_ITEMS[:2]], "", (LISTED, "", 0)),
     ("version", ["--version"], "", ("odfilter 0.1.0\n", "", 0)),
 ]
 
