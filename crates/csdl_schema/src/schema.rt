@@ -78,8 +78,8 @@ impl Schema {
         self.types.len()
     }
 
-    /// Returns the entity or complex type at an index below that count; `None` where a type of another kind stands
-    /// there, and after the last one.
+    /// Returns the entity or complex type at an index. `None` where a type of another kind stands there, and after the
+    /// last one.
     pub fn type_at(&self, index: usize) -> Option<TypeId>
         ensures { MatchOption result (¬ HoldsType self.now index) (λ id. (id ≡ index) × HoldsType self.now index) }
     {

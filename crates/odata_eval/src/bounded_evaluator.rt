@@ -21,8 +21,9 @@ use odata_filter_operations::EvalFault;
 use std::alloc::Global;
 
 /// Evaluates the filter on the entity, within a bound on its cost. The bound is on the bodies of lambda operators that
-/// it evaluates, the values that it compares after `in` within them, and the KiB of texts that it takes and makes.
-/// `None` if the filter costs more than the bound allows.
+/// it evaluates, the values that it compares after `in` within them, and the whole KiB of texts: 1 for each that a
+/// comparison takes, 8 for each that a function takes, and 16 for each that a function makes. `None` if the filter
+/// costs more than the bound allows.
 pub fn evaluate_within(
     alloc: Global,
     checked: &Checked<'_>,
