@@ -3,6 +3,7 @@ import concurrent.futures
 import contextlib
 import os
 import re
+import shutil
 import tempfile
 import threading
 
@@ -18,7 +19,7 @@ class Trial:
     def __init__(self, repository, name, wanted=()):
         self.repository, self.name, self.wanted = repository, name, set(wanted)
         self.passed, self.failed, self.lines = 0, 0, []
-        self.checks, self.seconds = 0, 0.0
+        self.checks, self.seconds, self.counting = 0, 0.0, threading.Lock()
 
     def run(self, place=contextlib.nullcontext):
         """Tries all, each check in a place of the machine."""
@@ -29,8 +30,10 @@ class Trial:
                 self.fails(edit.name, f"the library {lacking[0]} is not built: run rt ci, or rt lib in its folder")
         elif edits:
             with tempfile.TemporaryDirectory(prefix="planted-kept-") as kept:
-                for batch in sorted(batches_of(edits), key=lambda it: -len(it.edits)):
-                    self.judge(batch, kept)
+                first, *others = sorted(batches_of(edits), key=lambda it: -len(it.edits))
+                self.judge(first, kept)
+                with concurrent.futures.ThreadPoolExecutor(len(others) or 1) as pool:
+                    list(pool.map(lambda it: self.judge_apart(it, kept), others))
             seconds = f"{self.seconds:.0f} seconds of the processor"
             self.lines.append(f"{self.name}: {len(edits)} planted bugs, {self.checks} checks, {seconds}")
         return self
@@ -64,21 +67,35 @@ class Trial:
             else:
                 self.fails(edit.name, why_not(edit, shown))
 
+    def judge_apart(self, batch, kept):
+        """Checks a batch beside others, over what the first one has kept, and keeps nothing for them."""
+        with tempfile.TemporaryDirectory(prefix="planted-kept-") as room:
+            shutil.copytree(kept, f"{room}/kept", copy_function=link_or_copy)
+            self.judge(batch, f"{room}/kept")
+
     def check(self, batch, kept):
         functions = dict.fromkeys(it.name for it in batch.functions())
         with self.place():
             said = check(self.repository, self.name, batch.texts, functions, kept)
-        self.checks, self.seconds = self.checks + 1, self.seconds + said.seconds
+        with self.counting:
+            self.checks, self.seconds = self.checks + 1, self.seconds + said.seconds
         return said
 
     def passes(self, name, goals, how=""):
-        self.passed += 1
         more = f" and {len(goals) - 2} more" if len(goals) > 2 else ""
-        self.lines.append(f"{self.name}/{name}: refused at {', '.join(goals[:2])}{more}{how}")
+        with self.counting:
+            self.passed += 1
+            self.lines.append(f"{self.name}/{name}: refused at {', '.join(goals[:2])}{more}{how}")
 
     def fails(self, name, why):
-        self.failed += 1
-        self.lines.append(f"FAILED {self.name}/{name}: {why}")
+        with self.counting:
+            self.failed += 1
+            self.lines.append(f"FAILED {self.name}/{name}: {why}")
+
+
+def link_or_copy(path, to):
+    """What a check has proved is replaced by another one, and never written to, so that a link will do."""
+    return os.link(path, to) if path.endswith(".oantt") else shutil.copy2(path, to)
 
 
 def why_not(edit, said):
@@ -98,18 +115,20 @@ class Lanes:
 
     def __init__(self, most, is_pressing=lambda: True):
         self.most, self.is_pressing = most, is_pressing
-        self.starting, self.counting, self.running = threading.Lock(), threading.Lock(), 0
+        self.places, self.running = threading.Semaphore(most), 0
+        self.starting, self.counting = threading.Lock(), threading.Lock()
 
     @contextlib.contextmanager
     def place(self):
         """A place for a check. One begins at a time, so that each sees what the one before it takes."""
-        with self.starting:
-            wait_for_room(self.is_pressing, lambda: self.running < max(1, self.most // 2))
-            self.add(1)
-        try:
-            yield
-        finally:
-            self.add(-1)
+        with self.places:
+            with self.starting:
+                wait_for_room(self.is_pressing, lambda: self.running < max(1, self.most // 2))
+                self.add(1)
+            try:
+                yield
+            finally:
+                self.add(-1)
 
     def add(self, more):
         with self.counting:
