@@ -44,9 +44,9 @@
  *
  * FLAT CALLS, at the end, are the same calls under further names, for languages that do not pass a struct by value.
  *
- * THREADS. Schemas, types and filters are only read: several threads may use one at once. A judge is used by one
- * call at a time, so each thread has its own. A handle is freed when no call uses it. What one thread made may be
- * used and freed by another that learned of it by a lock, a start or a join of a thread, or a sequentially
+ * THREADS. Schemas, types, filters and conditions are only read: several threads may use one at once. A judge is used
+ * by one call at a time, so each thread has its own. A handle is freed when no call uses it. What one thread made may
+ * be used and freed by another that learned of it by a lock, a start or a join of a thread, or a sequentially
  * consistent atomic. No call is for a signal handler, or for the child of a fork of a process with threads.
  *
  * WHAT THE CALLER GUARANTEES: an address that is not NULL is that of as many bytes as its length says, or of what its
@@ -75,7 +75,7 @@ extern "C" {
 #define ODFILTER_NO_FILTER 7u      /* no option of the query is the filter */
 #define ODFILTER_MOMENT_NEEDED 8u  /* the filter calls now(), and the judge has no moment */
 #define ODFILTER_NOT_A_MOMENT 9u   /* the text is not a moment */
-#define ODFILTER_UNKNOWN_NUMBER 10u /* no status or fault has that number */
+#define ODFILTER_UNKNOWN_NUMBER 10u /* no status, fault, form, statement or parameter has that number */
 
 /* Why a document, a filter or a query is refused: `fault` of the answer is the number of the fault, below. */
 #define ODFILTER_SCHEMA_FAULT 16u
@@ -162,6 +162,18 @@ extern "C" {
 #define ODFILTER_SQLITE_COLUMNS 2u
 #define ODFILTER_SQLITE_JSON 3u
 
+/* ---- Statements of conditions of SQL. */
+
+#define ODFILTER_SQL_OUTCOME 0u /* 0 for false, 1 for true, 2 for null, 3 for Overflow, 4 for DivideByZero */
+#define ODFILTER_SQL_KEEP 1u    /* whether the filter is true of the row */
+#define ODFILTER_SQL_FAULT 2u   /* whether it has a fault there; no statement where no row can have one */
+
+/* ---- Kinds of the values of their parameters. */
+
+#define ODFILTER_VALUE_WHOLE 0u   /* a whole number of 64 bits */
+#define ODFILTER_VALUE_TEXT 1u
+#define ODFILTER_VALUE_INSTANT 2u /* a moment, as docs/SQL.md has it stored */
+
 /* ---- Verdicts. A row is kept where its verdict is ODFILTER_TRUE. */
 
 #define ODFILTER_FALSE 0u
@@ -170,7 +182,7 @@ extern "C" {
 
 /* ---- Types */
 
-/* A schema, a type, a filter or a judge. */
+/* A schema, a type, a filter, a judge, or conditions of SQL. */
 typedef struct odfilter_handle odfilter_handle;
 
 /* Bytes that are borrowed for a call. */
@@ -189,11 +201,11 @@ typedef struct odfilter_buffer {
  * the call does not report is 0. */
 typedef struct odfilter_answer {
     uint32_t fault;   /* the number of the fault, where the status is one of the _FAULT ones; else 0 */
-    uint32_t verdict; /* of a judged row */
+    uint32_t verdict; /* of a judged row; the kind of a value of SQL */
     size_t start;     /* where the fault is in the filter's text (of a query, decoded): its first byte, from 0 */
     size_t stop;      /* and the byte after the last */
     uint64_t number;  /* a query's fault's number; the line, from 1, of a run's; odfilter_needs_moment's 0 or 1; a count
-                       * or depth of a filter */
+                       * or depth of a filter; how many parameters a statement has; a value that is a whole number */
     size_t length;    /* how many bytes were written, or are needed */
     size_t first;     /* of the two names of a schema's fault, how many bytes the first has */
     uint64_t rows;    /* how many rows a run judged */
@@ -317,6 +329,32 @@ uint32_t odfilter_property_paths(const odfilter_handle *filter, odfilter_buffer 
 uint32_t odfilter_sql(const odfilter_handle *filter, uint32_t form, odfilter_bytes how, odfilter_buffer text,
                       odfilter_answer *answer);
 
+/* Makes the same conditions as a handle, of which the next two calls read the statements and the values of their
+ * parameters. The filter may be freed before it.
+ *
+ * ODFILTER_OK: `conditions` are the conditions. ODFILTER_NULL: any of the four is. All other statuses are those of
+ * odfilter_sql, but for ODFILTER_TOO_SMALL. */
+uint32_t odfilter_new_sql(const odfilter_handle *filter, uint32_t form, odfilter_bytes how,
+                          odfilter_handle **conditions, odfilter_answer *answer);
+
+/* Writes the text of a statement of conditions: ODFILTER_SQL_OUTCOME, ODFILTER_SQL_KEEP or ODFILTER_SQL_FAULT.
+ *
+ * ODFILTER_OK: `length` bytes have been written, and `number` is how many parameters it has. ODFILTER_TOO_SMALL:
+ * `length` are needed. ODFILTER_UNKNOWN_NUMBER: there is no such statement; of ODFILTER_SQL_FAULT, no row can have a
+ * fault. ODFILTER_NULL: any of the three is. ODFILTER_OTHER_KIND: `conditions` are none. */
+uint32_t odfilter_sql_text(const odfilter_handle *conditions, uint32_t which, odfilter_buffer text,
+                           odfilter_answer *answer);
+
+/* Reports the value of a parameter of such a statement. `index` is counted from 0, so that of $1 or ?1 is 0.
+ *
+ * ODFILTER_OK: `verdict` is its kind, one of the three above, and the text that the engine is given for it has been
+ * written, `length` bytes: a text itself, and the digits of a whole number. A whole number is `number` too, in two's
+ * complement: read it as int64_t. ODFILTER_TOO_SMALL: `length` are needed. ODFILTER_UNKNOWN_NUMBER: there is no such
+ * statement, or it has no parameter of that index. ODFILTER_NULL: any of the three is. ODFILTER_OTHER_KIND:
+ * `conditions` are none. ODFILTER_MEMORY. */
+uint32_t odfilter_sql_value(const odfilter_handle *conditions, uint32_t which, uint32_t index, odfilter_buffer text,
+                            odfilter_answer *answer);
+
 /* ---- Rows */
 
 /* Makes a judge, which is reused from row to row and for any filter. It has no moment and no bound yet. One call at a
@@ -388,8 +426,8 @@ uint32_t odfilter_path(const odfilter_handle *judge, odfilter_buffer path, odfil
 /* Makes another handle of the same schema, type or filter, for another owner: each is freed by itself, in any order,
  * and what they share is freed with the last one. Nothing is read or checked again.
  *
- * ODFILTER_OK: `made` is the handle. ODFILTER_OTHER_KIND: `handle` is a judge, which has one owner. ODFILTER_NULL: any
- * of the two is. ODFILTER_MEMORY. */
+ * ODFILTER_OK: `made` is the handle. ODFILTER_OTHER_KIND: `handle` is a judge or conditions, which have one owner.
+ * ODFILTER_NULL: any of the two is. ODFILTER_MEMORY. */
 uint32_t odfilter_share(const odfilter_handle *handle, odfilter_handle **made);
 
 /* Frees a handle, with all that belongs to it, and writes NULL to its variable: a second call for the same variable
@@ -458,6 +496,12 @@ uint32_t odfilter_flat_property_paths(const odfilter_handle *filter, char *paths
                                       odfilter_answer *answer);
 uint32_t odfilter_flat_sql(const odfilter_handle *filter, uint32_t form, const char *how, size_t how_length,
                            char *text, size_t text_length, odfilter_answer *answer);
+uint32_t odfilter_flat_new_sql(const odfilter_handle *filter, uint32_t form, const char *how, size_t how_length,
+                               odfilter_handle **conditions, odfilter_answer *answer);
+uint32_t odfilter_flat_sql_text(const odfilter_handle *conditions, uint32_t which, char *text, size_t text_length,
+                                odfilter_answer *answer);
+uint32_t odfilter_flat_sql_value(const odfilter_handle *conditions, uint32_t which, uint32_t index, char *text,
+                                 size_t text_length, odfilter_answer *answer);
 uint32_t odfilter_flat_set_moment(odfilter_handle *judge, const char *moment, size_t moment_length);
 uint32_t odfilter_flat_judge(const odfilter_handle *filter, odfilter_handle *judge, const char *row,
                              size_t row_length, odfilter_answer *answer);

@@ -59,6 +59,25 @@ uint32_t odfilter_sql(
     return odfilter_flat_sql(filter, form, how.at, how.length, text.at, text.length, answer);
 }
 
+uint32_t odfilter_new_sql(
+    const odfilter_handle *filter, uint32_t form, odfilter_bytes how, odfilter_handle **conditions,
+    odfilter_answer *answer)
+{
+    return odfilter_flat_new_sql(filter, form, how.at, how.length, conditions, answer);
+}
+
+uint32_t odfilter_sql_text(
+    const odfilter_handle *conditions, uint32_t which, odfilter_buffer text, odfilter_answer *answer)
+{
+    return odfilter_flat_sql_text(conditions, which, text.at, text.length, answer);
+}
+
+uint32_t odfilter_sql_value(
+    const odfilter_handle *conditions, uint32_t which, uint32_t index, odfilter_buffer text, odfilter_answer *answer)
+{
+    return odfilter_flat_sql_value(conditions, which, index, text.at, text.length, answer);
+}
+
 uint32_t odfilter_set_moment(odfilter_handle *judge, odfilter_bytes moment)
 {
     return odfilter_flat_set_moment(judge, moment.at, moment.length);

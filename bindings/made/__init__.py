@@ -1,6 +1,6 @@
 """What the bindings have of the header of the C library, made of include/odfilter.json: for bindings/make.
 
-Each language has the numbers of statuses, verdicts and forms by their names, the names of faults by status and number,
+Each language has the numbers of statuses, verdicts, forms, statements and kinds of values by their names, the names of faults by status and number,
 and how many names each fault of a schema carries. Those that cannot read the header itself have the declarations of
 calls and structs too.
 """

@@ -19,6 +19,14 @@ namespace Odfilter
     {{
 {forms}    }}
 
+    internal enum StatementNumber : uint
+    {{
+{statements}    }}
+
+    internal enum ValueKind : uint
+    {{
+{values}    }}
+
     /// <summary>What a call reports besides its status.</summary>
     [StructLayout(LayoutKind.Sequential)]
     internal struct Answer
@@ -90,6 +98,8 @@ def files(header):
         statuses=members(header.statuses),
         verdicts=members(header.verdicts),
         forms=members(header.forms),
+        statements=members(header.statements),
+        values=members(header.values),
         fields="".join(fields),
         schema_names=header.schema_names,
         faults="".join(faults),

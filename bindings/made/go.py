@@ -19,6 +19,14 @@ const (
 const (
 {forms})
 
+// The statements of conditions of SQL.
+const (
+{statements})
+
+// The kinds of values of their parameters.
+const (
+{values})
+
 // How many names each fault of a schema carries, by its number.
 var schemaNames = [...]int{{{schema_names}}}
 
@@ -52,6 +60,8 @@ def files(header):
         statuses=constants("status", "status", header.statuses),
         verdicts=constants("verdict", "uint8", header.verdicts),
         forms=constants("form", "uint32", header.forms),
+        statements=constants("statement", "uint32", header.statements),
+        values=constants("value", "uint32", header.values),
         schema_names=header.schema_names,
         faults="".join(fault_rows(header)),
     )

@@ -12,6 +12,8 @@ class Header:
         self.statuses = [(it["name"], it["number"]) for it in data["statuses"]]
         self.verdicts = [(it["name"], it["number"]) for it in data["verdicts"]]
         self.forms = [(it["name"], it["number"]) for it in data["forms"]]
+        self.statements = [(it["name"].removeprefix("SQL_"), it["number"]) for it in data["statements"]]
+        self.values = [(it["name"].removeprefix("VALUE_"), it["number"]) for it in data["values"]]
         number_of = dict(self.statuses)
         self.faults = sorted((number_of[it["status"]], it["number"], it["name"]) for it in data["faults"])
         of_schema = {it["number"]: len(it["names"]) for it in data["faults"] if it["status"] == "SCHEMA_FAULT"}

@@ -138,6 +138,7 @@ OF_FOREIGN |= {"size_t": "JAVA_LONG"}
 
 def numbers(header):
     groups = [("", header.statuses), ("VERDICT_", header.verdicts), ("FORM_", header.forms)]
+    groups += [("STATEMENT_", header.statements), ("VALUE_", header.values)]
     lines = (f"    static final int {prefix}{name} = {it};\n" for prefix, pairs in groups for name, it in pairs)
     faults = (
         f'            case {status} << 8 | {number}:\n                return "{name}";\n'

@@ -9,13 +9,18 @@ const VERDICT = {{
 {verdicts}}};
 const FORM = {{
 {forms}}};
+// the statements of conditions of SQL, and the kinds of values of their parameters
+const STATEMENT = {{
+{statements}}};
+const VALUE = {{
+{values}}};
 // how many names each fault of a schema carries, by its number
 const SCHEMA_NAMES = [{schema_names}];
 // the names of faults, by their status and number
 const FAULTS = {{
 {faults}}};
 
-module.exports = {{ STATUS, VERDICT, FORM, SCHEMA_NAMES, FAULTS }};
+module.exports = {{ STATUS, VERDICT, FORM, STATEMENT, VALUE, SCHEMA_NAMES, FAULTS }};
 """
 
 
@@ -36,6 +41,8 @@ def files(header):
         statuses=table(header.statuses),
         verdicts=table(header.verdicts),
         forms=table(header.forms),
+        statements=table(header.statements),
+        values=table(header.values),
         schema_names=header.schema_names,
         faults="".join(fault_rows(header)),
     )

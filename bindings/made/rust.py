@@ -16,7 +16,7 @@ pub const SCHEMA_NAMES: [usize; {schema_count}] = [{schema_names}];
 pub const FAULT_NAMES: &[(u32, u32, &str)] = &[
 {faults}];
 
-/// A schema, a type, a filter or a judge.
+/// A schema, a type, a filter, a judge, or conditions of SQL.
 #[repr(C)]
 pub struct odfilter_handle {{
     _private: [u8; 0],
@@ -66,6 +66,8 @@ def call(name, given):
 
 def files(header):
     pairs = [*header.statuses, *header.verdicts, *header.forms]
+    pairs += [(f"SQL_{name}", number) for name, number in header.statements]
+    pairs += [(f"VALUE_{name}", number) for name, number in header.values]
     text = PAGE.format(
         made=FROM,
         numbers="".join(f"pub const ODFILTER_{name}: u32 = {number};\n" for name, number in pairs),

@@ -23,9 +23,10 @@ const odfilterNumbers = {
   CALLS: {
     read_schema: 'bwma', find_type: 'hbm', types: 'hwa', check: 'hbma', check_query: 'hbma', check_url: 'hbwma',
     canonical: 'hwa', explain: 'hwa', needs_moment: 'ha', node_count: 'ha', lambda_depth: 'ha', property_paths: 'hwa',
-    sql: 'hnbwa', new_judge: 'm', new_judge_of: 'hm', set_moment: 'hb', set_bound: 'hu', judge: 'hhba',
-    judge_next: 'hba', filter_lines: 'hhbwa', path: 'hwa', share: 'hm', fits: 'u', version: 'wa', status_name: 'nwa',
-    fault_name: 'nnwa', fault_text: 'hnbwfa', fault_json: 'hnbwfa',
+    sql: 'hnbwa', new_sql: 'hnbma', sql_text: 'hnwa', sql_value: 'hnnwa', new_judge: 'm', new_judge_of: 'hm',
+    set_moment: 'hb', set_bound: 'hu', judge: 'hhba', judge_next: 'hba', filter_lines: 'hhbwa', path: 'hwa',
+    share: 'hm', fits: 'u', version: 'wa', status_name: 'nwa', fault_name: 'nnwa', fault_text: 'hnbwfa',
+    fault_json: 'hnbwfa',
   },
 };
 if (typeof module !== 'undefined') module.exports = odfilterNumbers;

@@ -7,7 +7,7 @@ static const odfilter_bytes no_bytes = {NULL, 0}, no_bytes_of_length = {NULL, 5}
 static const odfilter_buffer no_room = {NULL, 0}, no_room_of_length = {NULL, 64};
 
 /* a handle of each kind, in this order */
-enum kind { SCHEMA, TYPE, FILTER_KIND, JUDGE, KINDS };
+enum kind { SCHEMA, TYPE, FILTER_KIND, JUDGE, CONDITIONS, KINDS };
 static odfilter_handle *handles[KINDS];
 static char names[512];
 static const odfilter_buffer room = {names, sizeof names}, shut = {names, 0};
@@ -61,6 +61,14 @@ static void nulls_that_make_handles(void)
     at = place();
     is_null("new_judge_of: no filter", odfilter_new_judge_of(NULL, at), 0, at);
     is_null("new_judge_of: no handle variable", odfilter_new_judge_of(handles[FILTER_KIND], NULL), 0, NULL);
+    at = place();
+    is_null("new_sql: no filter", odfilter_new_sql(NULL, 0, no_bytes, at, fresh()), 1, at);
+    at = place();
+    is_null("new_sql: no lines of a length",
+            odfilter_new_sql(handles[FILTER_KIND], 0, no_bytes_of_length, at, fresh()), 1, at);
+    is_null("new_sql: no handle variable", odfilter_new_sql(handles[FILTER_KIND], 0, no_bytes, NULL, fresh()), 1, NULL);
+    at = place();
+    is_null("new_sql: no answer", odfilter_new_sql(handles[FILTER_KIND], 0, no_bytes, at, NULL), 0, at);
     drop(document);
     drop(name);
     drop(text);
@@ -112,6 +120,21 @@ static void nulls_of_texts(void)
     is_null("sql: neither lines of a length nor a buffer",
             odfilter_sql(handles[FILTER_KIND], 0, no_bytes_of_length, no_room, fresh()), 1, NULL);
     is_null("sql: no answer", odfilter_sql(handles[FILTER_KIND], 0, no_bytes, room, NULL), 0, NULL);
+    is_null("sql_text: no conditions", odfilter_sql_text(NULL, 0, room, fresh()), 1, NULL);
+    is_null("sql_text: no buffer of a length", odfilter_sql_text(handles[CONDITIONS], 0, no_room_of_length, fresh()), 1,
+            NULL);
+    status = odfilter_sql_text(handles[CONDITIONS], 0, shut, &wanted);
+    check("sql_text: the length of a text", status == ODFILTER_TOO_SMALL && wanted.length > 0);
+    asks_for_length("sql_text: no buffer", odfilter_sql_text(handles[CONDITIONS], 0, no_room, fresh()), status, wanted);
+    is_null("sql_text: no answer", odfilter_sql_text(handles[CONDITIONS], 0, room, NULL), 0, NULL);
+    is_null("sql_value: no conditions", odfilter_sql_value(NULL, 0, 0, room, fresh()), 1, NULL);
+    is_null("sql_value: no buffer of a length",
+            odfilter_sql_value(handles[CONDITIONS], 0, 0, no_room_of_length, fresh()), 1, NULL);
+    status = odfilter_sql_value(handles[CONDITIONS], 0, 0, shut, &wanted);
+    check("sql_value: the length of a value", status == ODFILTER_TOO_SMALL && wanted.length > 0);
+    asks_for_length("sql_value: no buffer", odfilter_sql_value(handles[CONDITIONS], 0, 0, no_room, fresh()), status,
+                    wanted);
+    is_null("sql_value: no answer", odfilter_sql_value(handles[CONDITIONS], 0, 0, room, NULL), 0, NULL);
     is_null("version: no buffer of a length", odfilter_version(no_room_of_length, fresh()), 1, NULL);
     status = odfilter_version(shut, &wanted);
     asks_for_length("version: no buffer", odfilter_version(no_room, fresh()), status, wanted);
@@ -247,6 +270,11 @@ static void other_kinds(void)
         check("property_paths: no filter",
               kind == FILTER_KIND || odfilter_property_paths(other, room, fresh()) == status);
         check("sql: no filter", kind == FILTER_KIND || odfilter_sql(other, 0, text, room, fresh()) == status);
+        at = place();
+        check("new_sql: no filter",
+              kind == FILTER_KIND || (odfilter_new_sql(other, 0, no_bytes, at, fresh()) == status && !*at));
+        check("sql_text: no conditions", kind == CONDITIONS || odfilter_sql_text(other, 0, room, fresh()) == status);
+        check("sql_value: no conditions", kind == CONDITIONS || odfilter_sql_value(other, 0, 0, room, fresh()) == status);
         check("types: no schema and no type",
               kind == SCHEMA || kind == TYPE || odfilter_types(other, room, fresh()) == status);
         check("canonical: no filter", kind == FILTER_KIND || odfilter_canonical(other, room, fresh()) == status);
@@ -345,6 +373,7 @@ int main(void)
     handles[TYPE] = type_of(handles[SCHEMA], "Mini.Item");
     handles[FILTER_KIND] = filter_of(handles[TYPE], FILTER);
     handles[JUDGE] = new_judge();
+    handles[CONDITIONS] = conditions_of(handles[FILTER_KIND]);
     nulls_that_make_handles();
     nulls_of_checks();
     nulls_of_texts();

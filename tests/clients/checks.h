@@ -112,6 +112,17 @@ static inline odfilter_handle *new_judge(void)
     return judge;
 }
 
+/* conditions for columns of SQLite, without a moment */
+static inline odfilter_handle *conditions_of(const odfilter_handle *filter)
+{
+    static const odfilter_bytes how = {NULL, 0};
+    odfilter_answer answer;
+    odfilter_handle *conditions = NULL;
+    check("conditions are made",
+          odfilter_new_sql(filter, ODFILTER_SQLITE_COLUMNS, how, &conditions, &answer) == ODFILTER_OK);
+    return conditions;
+}
+
 /* the status of a judged row, and the verdict */
 static inline uint32_t judged(const odfilter_handle *filter, odfilter_handle *judge, const char *row, uint32_t *verdict)
 {

@@ -116,7 +116,24 @@ static void conditions(const odfilter_handle *filter, uint32_t form)
     odfilter_bytes how = bytes_of("2026-11-25T09:00:00Z\nName=title");
     odfilter_buffer buffer = fresh(SIZE);
     uint32_t wanted = odfilter_sql(filter, form, how, buffer, &plain);
+    odfilter_handle *made = NULL, *of_flat = NULL;
+    uint32_t got, which, index;
     same("sql", wanted, odfilter_flat_sql(filter, form, how.at, how.length, second, SIZE, &flat));
+    fresh(0);
+    wanted = odfilter_new_sql(filter, form, how, &made, &plain);
+    got = odfilter_flat_new_sql(filter, form, how.at, how.length, &of_flat, &flat);
+    of_flat = same_made("new_sql", wanted, got, &made, of_flat);
+    for (which = 0; of_flat && which < 4; which++) {
+        buffer = fresh(SIZE);
+        wanted = odfilter_sql_text(of_flat, which, buffer, &plain);
+        same("sql_text", wanted, odfilter_flat_sql_text(of_flat, which, second, SIZE, &flat));
+        for (index = 0; index < 4; index++) {
+            buffer = fresh(8);
+            wanted = odfilter_sql_value(of_flat, which, index, buffer, &plain);
+            same("sql_value", wanted, odfilter_flat_sql_value(of_flat, which, index, second, 8, &flat));
+        }
+    }
+    odfilter_free(&of_flat);
     drop(how);
 }
 

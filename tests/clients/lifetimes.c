@@ -107,6 +107,31 @@ static void shared(int frees_share_first)
     odfilter_free(&judge);
 }
 
+static int are_read(const odfilter_handle *conditions)
+{
+    char text[64];
+    odfilter_buffer room = {text, sizeof text};
+    odfilter_answer answer;
+    return odfilter_sql_value(conditions, ODFILTER_SQL_KEEP, 0, room, &answer) == ODFILTER_OK && answer.number == 1;
+}
+
+/* conditions outlive their filter, and the filter its conditions; they have one owner */
+static void with_conditions(int frees_conditions_first)
+{
+    odfilter_handle *schema = schema_of(DOCUMENT), *type = type_of(schema, "Mini.Item"), *filter = filter_of(type, FILTER);
+    odfilter_handle *conditions = conditions_of(filter), *none = conditions;
+    check("conditions have one owner", odfilter_share(conditions, &none) == ODFILTER_OTHER_KIND && !none);
+    odfilter_free(&schema);
+    odfilter_free(&type);
+    check("conditions are freed, or their filter",
+          odfilter_free(frees_conditions_first ? &conditions : &filter) == ODFILTER_OK);
+    if (conditions)
+        check("conditions of a filter that is gone", are_read(conditions));
+    else
+        use_filter(filter);
+    odfilter_free(frees_conditions_first ? &filter : &conditions);
+}
+
 /* whether it is an order of all kinds: each stands in it */
 static int is_order(const int *order)
 {
@@ -132,5 +157,7 @@ int main(void)
     one_judge();
     shared(0);
     shared(1);
+    with_conditions(0);
+    with_conditions(1);
     return end();
 }

@@ -30,7 +30,7 @@ void *__wrap_realloc(void *at, size_t size)
     return is_refused() ? NULL : __real_realloc(at, size);
 }
 
-static odfilter_handle *schema, *type, *filter, *judge, *own, *made;
+static odfilter_handle *schema, *type, *filter, *judge, *own, *conditions, *made;
 static odfilter_bytes document, name, text, query, rows, row;
 static odfilter_buffer room, names;
 static odfilter_answer answer;
@@ -91,6 +91,19 @@ static uint32_t call_sql(void)
 {
     static const odfilter_bytes none = {NULL, 0};
     return odfilter_sql(filter, ODFILTER_SQLITE_COLUMNS, none, room, &answer);
+}
+
+static uint32_t call_new_sql(void)
+{
+    static const odfilter_bytes none = {NULL, 0};
+    return odfilter_new_sql(filter, ODFILTER_SQLITE_COLUMNS, none, &made, &answer);
+}
+
+static uint32_t call_sql_value(void)
+{
+    uint32_t status = odfilter_sql_value(conditions, ODFILTER_SQL_KEEP, 0, room, &answer);
+    check("a value is the right one", status != ODFILTER_OK || (answer.length == 1 && room.at[0] == 'a'));
+    return status;
 }
 
 static uint32_t call_fault_text(void)
@@ -198,6 +211,11 @@ static int is_own_judge(void)
     return is_next_kept(made, ROW) && !is_next_kept(made, OTHER_ROW) && is_judge();
 }
 
+static int are_conditions(void)
+{
+    return odfilter_sql_text(made, ODFILTER_SQL_KEEP, room, &answer) == ODFILTER_OK && answer.number > 0;
+}
+
 /* a call of which one allocation is refused, if it asks for so many: what it makes is whole or not there */
 static uint32_t refuse_one(const char *call_name, uint32_t (*call)(void), int (*is_whole)(void))
 {
@@ -293,6 +311,7 @@ static void take_handles(void)
     filter = filter_of(type, "Active and contains(Name,'a') and ID eq 1");
     judge = new_judge();
     own = new_judge_of(filter);
+    conditions = conditions_of(filter);
 }
 
 int main(void)
@@ -307,6 +326,8 @@ int main(void)
     refuse_each("check_url", call_check_url, is_filter);
     refuse_each("property_paths", call_property_paths, NULL);
     refuse_each("sql", call_sql, NULL);
+    refuse_each("new_sql", call_new_sql, are_conditions);
+    refuse_each("sql_value", call_sql_value, NULL);
     refuse_each("fault_text", call_fault_text, NULL);
     refuse_each("fault_json", call_fault_json, NULL);
     refuse_each("canonical", call_canonical, NULL);
@@ -323,6 +344,7 @@ int main(void)
     odfilter_free(&filter);
     odfilter_free(&judge);
     odfilter_free(&own);
+    odfilter_free(&conditions);
     drop(document);
     drop(name);
     drop(text);

@@ -59,6 +59,21 @@ static void *check_it(void *nothing)
     return nothing;
 }
 
+/* the same conditions as a handle, whose first value is read, where there is one */
+static void as_handle(uint32_t form, odfilter_bytes how, uint32_t wanted_status)
+{
+    odfilter_handle *conditions = NULL;
+    odfilter_answer answer;
+    uint32_t status = odfilter_new_sql(filter, form, how, &conditions, &answer);
+    check("conditions as a handle", status == wanted_status && (conditions != NULL) == (status == ODFILTER_OK));
+    if (!conditions)
+        return;
+    check("a text", odfilter_sql_text(conditions, ODFILTER_SQL_KEEP, room, &answer) == ODFILTER_OK);
+    status = odfilter_sql_value(conditions, ODFILTER_SQL_KEEP, 0, room, &answer);
+    check("a value", status == ODFILTER_OK || status == ODFILTER_UNKNOWN_NUMBER);
+    check("they are freed", odfilter_free(&conditions) == ODFILTER_OK);
+}
+
 /* its conditions for each engine and storage, or that it nests too deeply for one: SQLite parses some ten levels */
 static void into_sql(void)
 {
@@ -71,6 +86,7 @@ static void into_sql(void)
         if (form <= ODFILTER_POSTGRESQL_JSON && nesting != AT_ANY_DEPTH)
             check("a known depth", status == (nesting == AT_THE_LIMIT ? ODFILTER_OK : ODFILTER_TOO_DEEP));
         translated += form <= ODFILTER_POSTGRESQL_JSON && status == ODFILTER_OK;
+        as_handle(form, how, status);
     }
 }
 

@@ -1,5 +1,6 @@
-/* Eight threads over one schema, one type and one filter, each with a judge of its own: `threads TIMES`. Each of them
- * frees handles that the first thread made, while the others use theirs, and makes one that the first thread frees. */
+/* Eight threads over one schema, one type, one filter and its conditions, each with a judge of its own: `threads TIMES`.
+ * Each of them frees handles that the first thread made, while the others use theirs, and makes one that the first
+ * thread frees. */
 #include <pthread.h>
 
 #include "checks.h"
@@ -7,7 +8,7 @@
 #define THREADS 8
 
 /* what all threads read */
-static odfilter_handle *schema, *type, *filter;
+static odfilter_handle *schema, *type, *filter, *conditions;
 static long times;
 
 struct work {
@@ -47,6 +48,15 @@ static int is_reported(uint32_t (*call)(const odfilter_handle *, odfilter_buffer
     return call(filter, room, &answer) == ODFILTER_OK && !memcmp(text, wanted, strlen(wanted));
 }
 
+/* the first value of the conditions that all read */
+static int is_value(void)
+{
+    char text[32];
+    odfilter_buffer room = {text, sizeof text};
+    odfilter_answer answer;
+    return odfilter_sql_value(conditions, ODFILTER_SQL_KEEP, 0, room, &answer) == ODFILTER_OK && answer.number == 1;
+}
+
 /* a filter of the type that all read, and a type of their schema */
 static int is_checked(odfilter_handle *judge)
 {
@@ -76,7 +86,7 @@ static void *work_of(void *given)
         work->wrong += odfilter_judge(filter, judge, borrowed(BAD_ROW), &answer) != ODFILTER_ROW_FAULT;
         work->wrong += !keeps_next(own, ROW, ODFILTER_TRUE) || !keeps_next(own, OTHER_ROW, ODFILTER_FALSE);
         if (number % 16 == 0)
-            work->wrong += !is_checked(judge) || !is_reported(odfilter_canonical, FILTER) ||
+            work->wrong += !is_checked(judge) || !is_value() || !is_reported(odfilter_canonical, FILTER) ||
                            !is_reported(odfilter_explain, "0..18 and");
         if (number == times / 2) {
             work->wrong += !keeps(work->own_filter, judge, ROW, ODFILTER_TRUE);
@@ -98,6 +108,7 @@ int main(int count, char **words)
     schema = schema_of(DOCUMENT);
     type = type_of(schema, "Mini.Item");
     filter = filter_of(type, FILTER);
+    conditions = conditions_of(filter);
     for (number = 0; number < THREADS; number++) {
         works[number].own_type = type_of(schema, "Mini.Item");
         works[number].own_filter = filter_of(works[number].own_type, FILTER);
@@ -111,6 +122,7 @@ int main(int count, char **words)
     odfilter_free(&schema);
     odfilter_free(&type);
     odfilter_free(&filter);
+    odfilter_free(&conditions);
     for (number = 0; number < THREADS; number++) {
         check("a filter that a thread made", is_kept(works[number].made, judge, ROW));
         check("it is freed", odfilter_free(&works[number].made) == ODFILTER_OK);

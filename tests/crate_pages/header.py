@@ -1,7 +1,7 @@
 """The header of the C library as data, include/odfilter.json, and what the header has in common with the sources.
 
 The data has what a binding in another language declares: calls with their parameters, structs with their fields,
-statuses, faults by their status, forms and verdicts, each with its number. It is made of include/odfilter.h; the names
+statuses, faults by their status, forms, statements, kinds of values and verdicts, each with its number. It is made of include/odfilter.h; the names
 of faults, the types of parameters and fields and the numbers of statuses are compared with the crates.
 """
 import json
@@ -11,7 +11,7 @@ from .sources import text_of
 
 __all__ = ["DATA", "checks", "page"]
 HEADER, DATA = "include/odfilter.h", "include/odfilter.json"
-SOURCES = ("c_types", "exports", "fault_exports", "filter_exports", "judge_exports", "type_exports")
+SOURCES = ("c_types", "exports", "fault_exports", "filter_exports", "judge_exports", "sql_exports", "type_exports")
 EXPORTS = [f"crates/odfilter_c/src/{it}.rt" for it in SOURCES]
 SIZES = {"uint32_t": 4, "uint64_t": 8, "size_t": 8, "const char *": 8, "char *": 8}
 # what stands for a struct in a flat call: the type of its address
@@ -117,7 +117,8 @@ def data():
     return {
         "about": "The calls of include/odfilter.h as data; docs/make writes this file.",
         "version": version, "library": library, "statuses": statuses, "faults": [*faults(statuses, by_title["Faults"])],
-        "forms": numbered(by_title["Forms"]), "verdicts": numbered(by_title["Verdicts"]),
+        "forms": numbered(by_title["Forms"]), "statements": numbered(by_title["Statements"]),
+        "values": numbered(by_title["Kinds"]), "verdicts": numbered(by_title["Verdicts"]),
         "structs": [*structs(by_title["Types"])], "calls": [*calls(header)],
     }
 

@@ -13,6 +13,12 @@ abbrev pub IsFilterKind : Handle → Type 0
 IsFilterKind (Handle.Filter held) = Unit {0}
 IsFilterKind handle = ⊥
 
-abbrev pub IsJudge : Handle → Type 0
-IsJudge (Handle.Judge held) = Unit {0}
-IsJudge handle = ⊥
+abbrev pub IsConditionsKind : Handle → Type 0
+IsConditionsKind (Handle.Conditions held) = Unit {0}
+IsConditionsKind handle = ⊥
+
+-- a judge and conditions belong to one owner
+abbrev pub HasOneOwner : Handle → Type 0
+HasOneOwner (Handle.Judge held) = Unit {0}
+HasOneOwner (Handle.Conditions held) = Unit {0}
+HasOneOwner handle = ⊥

@@ -1,6 +1,6 @@
 -- Another owner of what a handle stands for.
 use Rattle.std.specs.Prelude.{◌≡◌, ℕ}
-use Rattle.handle_calls.specs.Kinds.{IsJudge}
+use Rattle.handle_calls.specs.Kinds.{HasOneOwner}
 use Rattle.handle_calls.specs.Outcomes.{Makes}
 use Rattle.handle_calls.specs.declared.answer.Answer.{Answer}
 use Rattle.handle_calls.specs.declared.call_fault.Fault.{Fault}
@@ -14,9 +14,9 @@ IsSame (Handle.Type given) (Handle.Type made) = made ≡ given
 IsSame (Handle.Filter given) (Handle.Filter made) = made ≡ given
 IsSame given made = ⊥
 
--- why there is none: a judge has one owner, or out of memory
+-- why there is none: it has one owner, or out of memory
 abbrev pub IsNotShared : Handle → Fault → Type 0
-IsNotShared given Fault.OtherKind = IsJudge given
+IsNotShared given Fault.OtherKind = HasOneOwner given
 IsNotShared given Fault.Memory = Unit {0}
 IsNotShared given fault = ⊥
 

@@ -7,6 +7,7 @@ use edm_rows::{LayoutReader, RowLayout};
 use edm_values::Moment;
 use odata_filter::FilterRows;
 use odata_typing::{Checked, StoredFilter};
+use sql_tree::{Dialect, Parameter};
 use std::marker::Model;
 use std::sync::Arc;
 
@@ -18,6 +19,8 @@ pub enum Handle {
     Filter(FilterHandle),
     /// In a box of its own, so that the other kinds stay small.
     Judge(Box<JudgeHandle>),
+    /// Likewise.
+    Conditions(Box<ConditionsHandle>),
 }
 
 /// A schema, which handles of types and filters share.
@@ -120,4 +123,21 @@ pub struct JudgeHandle {
     pub(crate) last: Option<RowFault>,
     /// The filter that it was made for, if it was made for one. In a box of its own, since it is large.
     pub(crate) own: Option<Box<OwnFilter>>,
+}
+
+/// An expression of SQL, and the values of its parameters in order.
+#[derive(Drop)]
+pub struct SqlStatement {
+    pub text: String,
+    pub parameters: Vec<Parameter>,
+}
+
+/// What a filter says of the rows of a table, in SQL of a dialect.
+#[derive(Drop)]
+pub struct ConditionsHandle {
+    pub dialect: Dialect,
+    pub outcome: SqlStatement,
+    pub keep: SqlStatement,
+    /// `None` where no row can have a fault.
+    pub fault: Option<SqlStatement>,
 }

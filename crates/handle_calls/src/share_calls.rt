@@ -38,7 +38,7 @@ fn shared_filter(held: &FilterHandle) -> Result<Handle, AllocError>
     }))
 }
 
-/// The same schema, type or filter. A judge has one owner.
+/// The same schema, type or filter. A judge and conditions have one owner.
 pub(crate) fn share_of(handle: &Handle) -> Result<Handle, Fault>
     ensures { MatchResult result (IsSame handle.now) (IsNotShared handle.now) }
 {
@@ -47,6 +47,7 @@ pub(crate) fn share_of(handle: &Handle) -> Result<Handle, Fault>
         Handle::Type(held) => shared_type(held),
         Handle::Filter(held) => shared_filter(held),
         Handle::Judge(_) => return Err(Fault::OtherKind),
+        Handle::Conditions(_) => return Err(Fault::OtherKind),
     };
     match shared {
         Ok(made) => Ok(made),

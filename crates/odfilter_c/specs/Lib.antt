@@ -4,10 +4,12 @@ pub use Rattle.handle_calls.specs.RowReports
 pub use Rattle.handle_calls.specs.UrlCalls
 pub use Rattle.report_calls.specs.Reports as TextReports
 pub use Rattle.report_calls.specs.Sentences
+pub use Rattle.report_calls.specs.SqlHandles
 pub mod Exports
 pub mod FaultExports
 pub mod FilterExports
 pub mod JudgeExports
 pub mod Loans
 pub mod Sizes
+pub mod SqlExports
 pub mod TypeExports

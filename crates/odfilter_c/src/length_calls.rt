@@ -7,6 +7,7 @@ ghost use Rattle.handle_calls.specs.Costs.{ReportsPaths};
 ghost use Rattle.handle_calls.specs.RowReports.{ReportsPath};
 ghost use Rattle.report_calls.specs.Reports.{ReportsFault, ReportsSql, ReportsStatus, ReportsTypes, ReportsVersion};
 ghost use Rattle.report_calls.specs.Sentences.{ReportsSentence, ReportsSentenceFor};
+ghost use Rattle.report_calls.specs.SqlHandles.{ReportsStatement, ReportsValue};
 
 use crate::null_calls;
 use handle_calls::{Answer, Handle, calls};
@@ -161,6 +162,40 @@ pub(crate) fn sql_to_null_at_null<'a>(
     }
     let mut none = [0; 0];
     null_calls::sql_at_null(alloc, filter, form, how_length, none.as_mut_slice(), answer)
+}
+
+pub(crate) fn sql_text_to_null<'a>(
+    conditions: &'a Handle,
+    which: u32,
+    length: usize,
+    answer: &'a mut Answer,
+) -> u32
+    ensures { UnlessLong length ((answer.new ≡ answer.old) × (result ≡ 1))
+        ((last : List ℕ) × ReportsStatement conditions.now which [] last answer.new result) }
+{
+    if length > 0 {
+        return 1;
+    }
+    let mut none = [0; 0];
+    reports::sql_text(conditions, which, none.as_mut_slice(), answer)
+}
+
+pub(crate) fn sql_value_to_null<'a>(
+    alloc: Global,
+    conditions: &'a Handle,
+    which: u32,
+    index: u32,
+    length: usize,
+    answer: &'a mut Answer,
+) -> u32
+    ensures { UnlessLong length ((answer.new ≡ answer.old) × (result ≡ 1))
+        ((last : List ℕ) × ReportsValue conditions.now which index [] last answer.new result) }
+{
+    if length > 0 {
+        return 1;
+    }
+    let mut none = [0; 0];
+    reports::sql_value(alloc, conditions, which, index, none.as_mut_slice(), answer)
 }
 
 pub(crate) fn fault_text_to_null<'a>(

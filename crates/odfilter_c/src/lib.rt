@@ -16,6 +16,7 @@ pub mod filter_exports;
 pub mod judge_exports;
 mod length_calls;
 mod null_calls;
+pub mod sql_exports;
 pub mod type_exports;
 
 pub use c_types::{Buffer, Bytes};

@@ -7,6 +7,7 @@ ghost use Rattle.report_calls.specs.Reports.{ReportsSql};
 ghost use Rattle.handle_calls.specs.UrlCalls.{ChecksUrl};
 ghost use Rattle.handle_calls.specs.RowReports.{SetsMoment, JudgesOne, JudgesNext, FiltersLines};
 ghost use Rattle.report_calls.specs.Sentences.{ReportsSentence, ReportsSentenceFor};
+ghost use Rattle.report_calls.specs.SqlHandles.{MakesSql};
 
 use handle_calls::{Answer, Handle, Owned, calls, put_moment, report_next};
 use report_calls::calls as reports;
@@ -108,6 +109,23 @@ pub(crate) fn sql_at_null<'a>(
         return 1;
     }
     reports::sql(alloc, filter, form, b"".as_slice(), text, answer)
+}
+
+pub(crate) fn new_sql_at_null<'a>(
+    alloc: Global,
+    filter: &'a Handle,
+    form: u32,
+    length: usize,
+    made: &'a mut Owned,
+    answer: &'a mut Answer,
+) -> u32
+    ensures { UnlessLong length ((made.new ≡ made.old) × ((answer.new ≡ answer.old) × (result ≡ 1)))
+        (MakesSql filter.now form [] made.new answer.new result) }
+{
+    if length > 0 {
+        return 1;
+    }
+    reports::new_sql(alloc, filter, form, b"".as_slice(), made, answer)
 }
 
 pub(crate) fn set_moment_at_null<'a>(judge: &'a mut Handle, length: usize) -> u32

@@ -1,6 +1,7 @@
 pub use Rattle.fault_sentences.specs.Numbers
 pub use Rattle.handle_calls.specs.Answers
 pub use Rattle.handle_calls.specs.Kinds
+pub use Rattle.handle_calls.specs.Outcomes
 pub use Rattle.handle_calls.specs.RowCalls
 pub use Rattle.handle_calls.specs.Texts
 pub use Rattle.odata_checked_filter.specs.Calls
@@ -12,10 +13,12 @@ pub use Rattle.odata_sql.specs.Translation
 pub use Rattle.sql_tables.specs.Columns
 pub use Rattle.sql_tables.specs.Forms
 pub use Rattle.sql_tables.specs.Lines
+pub use Rattle.sql_tree.specs.GivenText
 pub use Rattle.sql_tree.specs.TableModel
 pub mod Names
 pub mod Reports
 pub mod Sentences
 pub mod SqlCalls
+pub mod SqlHandles
 pub mod TypeLines
 pub mod private

@@ -38,11 +38,10 @@ abbrev pub IsNowBy : Filter → List ℕ → MomentParts → Type 0
 IsNowBy filter [] now = ¬ UsesNow (tree_of_filter filter)
 IsNowBy filter line now = MomentValue line now
 
--- the text is that of conditions which say of each row what the filter does
+-- the conditions say of each row what the filter does
 pub record HasConditions
-    (filter : Filter) (storage : StorageModel) (dialect : Dialect) (now : MomentParts) (text : List ℕ) : Type 0 where
-  pub conditions : Conditions
-  pub text_is : IsTextOf dialect conditions text
+    (filter : Filter) (storage : StorageModel) (dialect : Dialect) (now : MomentParts) (conditions : Conditions)
+    : Type 0 where
   pub outcome : Says filter now dialect (table_of filter storage) conditions.outcome IsItsCode
   pub keep : Says filter now dialect (table_of filter storage) conditions.keep KeepsIt
   pub fault : IfSome conditions.fault (λ s. Says filter now dialect (table_of filter storage) s FaultsIt)
@@ -51,20 +50,28 @@ pub record HasConditions
   pub levels : ¬ ExceedsLevels filter.list.nodes
 
 -- the conditions of a filter over a table, by what follows the first line
-abbrev pub IsTableSql : Filter → Dialect → Bool → List ℕ → MomentParts → List ℕ → Type 0
-IsTableSql filter dialect by_columns names now text =
+abbrev pub HasTableSql : Filter → Dialect → Bool → List ℕ → MomentParts → Conditions → Type 0
+HasTableSql filter dialect by_columns names now conditions =
     (storage : StorageModel) × IsStoredBy by_columns filter names storage
-    × HasConditions filter storage dialect now text
+    × HasConditions filter storage dialect now conditions
 
-abbrev pub IsSqlBy : Filter → Dialect → Bool → List ℕ → List ℕ → Type 0
-IsSqlBy filter dialect by_columns how text =
+abbrev pub HasSqlBy : Filter → Dialect → Bool → List ℕ → Conditions → Type 0
+HasSqlBy filter dialect by_columns how conditions =
     (now : MomentParts) × IsNowBy filter (first_line how) now
-    × IsTableSql filter dialect by_columns (after_line how) now text
+    × HasTableSql filter dialect by_columns (after_line how) now conditions
 
-abbrev pub IsSqlOf : Handle → ℕ → List ℕ → List ℕ → Type 0
-IsSqlOf (Handle.Filter filter) form how text =
-    IsSomeAnd (form_numbered form) (λ f. IsSqlBy filter f.0 f.1 how text)
-IsSqlOf given form how text = ⊥
+-- those of the filter that a handle is, in the dialect of the form
+abbrev pub HasSql : Handle → ℕ → List ℕ → Dialect → Conditions → Type 0
+HasSql (Handle.Filter filter) form how dialect conditions =
+    IsSomeAnd (form_numbered form) (λ f. (dialect ≡ f.0) × HasSqlBy filter f.0 f.1 how conditions)
+HasSql given form how dialect conditions = ⊥
+
+-- the text is that of such conditions
+pub record IsSqlOf (given : Handle) (form : ℕ) (how text : List ℕ) : Type 0 where
+  pub dialect : Dialect
+  pub conditions : Conditions
+  pub right : HasSql given form how dialect conditions
+  pub text_is : IsTextOf dialect conditions text
 
 -- ---- why there are none
 

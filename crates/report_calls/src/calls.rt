@@ -1,13 +1,16 @@
 //! The calls, over what is borrowed: each returns its status, and reports the rest in its answer.
 ghost use Rattle.report_calls.specs.Reports.{ReportsFault, ReportsSql, ReportsStatus, ReportsTypes, ReportsVersion};
 ghost use Rattle.report_calls.specs.Sentences.{ReportsSentence, ReportsSentenceFor};
+ghost use Rattle.report_calls.specs.SqlHandles.{MakesSql, ReportsStatement, ReportsValue};
 
 use crate::json_calls::{json_for, json_of};
 use crate::name_calls::{VERSION, name_of_fault, name_of_status};
 use crate::sentence_calls::{sentence_for, sentence_of};
 use crate::sql_calls::sql_of;
+use crate::sql_handles::sql_handle;
+use crate::statement_calls::{report_shown, report_statement, statement_of, value_of};
 use crate::type_lines::types_of;
-use handle_calls::{Answer, Handle, report_bytes, report_fault};
+use handle_calls::{Answer, Handle, Owned, give, report_bytes, report_fault};
 use std::alloc::Global;
 
 /// Writes a sentence about a fault of a filter, query or row of a type.
@@ -93,6 +96,58 @@ pub fn sql<'a>(
 {
     match sql_of(alloc, filter, form, how) {
         Ok(conditions) => report_bytes(conditions.as_bytes(), text, answer),
+        Err(fault) => report_fault(&fault, answer),
+    }
+}
+
+/// Makes conditions of a filter in SQL.
+pub fn new_sql<'a>(
+    alloc: Global,
+    filter: &'a Handle,
+    form: u32,
+    how: &'a [u8],
+    made: &'a mut Owned,
+    answer: &'a mut Answer,
+) -> u32
+    ensures { MakesSql filter.now form how.now made.new answer.new result }
+{
+    give(alloc, sql_handle(alloc, filter, form, how), made, answer)
+}
+
+/// Writes the text of a statement of conditions.
+pub fn sql_text<'a>(
+    conditions: &'a Handle,
+    which: u32,
+    text: &'a mut [u8],
+    answer: &'a mut Answer,
+) -> u32
+    ensures { ReportsStatement conditions.now which text.old text.new answer.new result }
+{
+    match statement_of(conditions, which) {
+        Ok(found) => report_statement(found, text, answer),
+        Err(fault) => report_fault(&fault, answer),
+    }
+}
+
+/// Reports the value of a parameter of a statement.
+pub fn sql_value<'a>(
+    alloc: Global,
+    conditions: &'a Handle,
+    which: u32,
+    index: u32,
+    text: &'a mut [u8],
+    answer: &'a mut Answer,
+) -> u32
+    ensures { ReportsValue conditions.now which index text.old text.new answer.new result }
+{
+    match value_of(alloc, conditions, which, index) {
+        Ok(value) => report_shown(
+            value.kind,
+            value.number,
+            value.text.as_bytes(),
+            text,
+            answer,
+        ),
         Err(fault) => report_fault(&fault, answer),
     }
 }

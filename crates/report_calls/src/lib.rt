@@ -1,5 +1,5 @@
 //! Calls over handles that report what is at fault, what a filter says in SQL, and the types of a schema, for a library
-//! of C: names, sentences and JSON of faults, conditions of SQL, and types in lines.
+//! of C: names, sentences and JSON of faults, conditions of SQL as JSON or as a handle, and types in lines.
 //!
 //! ```rust
 //! let status = calls::fault_name(17, 1, &mut text, &mut answer);
@@ -12,4 +12,6 @@ mod json_calls;
 mod name_calls;
 mod sentence_calls;
 mod sql_calls;
+mod sql_handles;
+mod statement_calls;
 mod type_lines;

@@ -1,38 +1,42 @@
 //! A filter as conditions of SQL.
 ghost use Rattle.handle_calls.specs.declared.call_fault.Fault.{Fault};
 ghost use Rattle.handle_calls.specs.declared.handle.Handle.{Handle};
-ghost use Rattle.std.specs.Prelude.{MatchResult, string_bytes, true, false};
+ghost use Rattle.std.specs.Prelude.{◌≡◌, Ok, Err, MatchResult, string_bytes, true, false};
+ghost use Rattle.odata_sql.specs.JsonText.{IsTextOf};
 ghost use Rattle.odata_sql.specs.Refusals.{HasColumns};
 ghost use Rattle.sql_tree.specs.TableModel.{storage_in};
-ghost use Rattle.report_calls.specs.SqlCalls.{HasConditions};
+ghost use Rattle.report_calls.specs.SqlCalls.{HasConditions, HasSql, HasTableSql};
 ghost use Rattle.report_calls.specs.SqlCalls.{IsNoConditions, IsNoNow, IsNoSql, IsNoTableSql, IsNowBy, IsSqlOf};
-ghost use Rattle.report_calls.specs.SqlCalls.{IsTableSql};
 
 use edm_values::{Moment, read_moment};
 use handle_calls::{Fault, Handle, moment_for};
-use odata_sql::{SqlFault, columns_suffice, conditions_json, translate};
+use odata_sql::{Conditions, SqlFault, columns_suffice, conditions_json, translate};
 use odata_typing::Checked;
 use sql_tables::{are_known, columns_of, form_of, split_first_line};
 use sql_tree::{Dialect, Storage};
 use std::alloc::Global;
 
-/// The conditions of a filter as a text.
-fn conditions_text(
+/// Conditions with their dialect.
+#[derive(Drop)]
+pub(crate) struct Translated {
+    pub(crate) dialect: Dialect,
+    pub(crate) conditions: Conditions,
+}
+
+/// The conditions of a filter.
+fn conditions_over(
     alloc: Global,
     checked: &Checked<'_>,
     storage: Storage<'_>,
     dialect: Dialect,
     now: &Moment,
-) -> Result<String, Fault>
+) -> Result<Conditions, Fault>
     requires { HasColumns checked.now.list.nodes (storage_in storage) }
-    ensures { MatchResult result (λ text. HasConditions checked.now (storage_in storage.entry) dialect now.now
-        (string_bytes text)) (IsNoConditions checked.now (storage_in storage.entry) dialect now.now) }
+    ensures { MatchResult result (λ found. HasConditions checked.now (storage_in storage.entry) dialect now.now found)
+        (IsNoConditions checked.now (storage_in storage.entry) dialect now.now) }
 {
     match translate(alloc, checked, storage, dialect, now) {
-        Ok(found) => match conditions_json(alloc, &found, dialect) {
-            Ok(text) => Ok(text),
-            Err(_) => Err(Fault::Memory),
-        },
+        Ok(found) => Ok(found),
         // `NoColumn` never comes: what the filter names has its column, as `requires` says.
         Err(SqlFault::Nul) | Err(SqlFault::NoColumn) => Err(Fault::Unsayable),
         Err(SqlFault::TooDeep) => Err(Fault::TooDeep),
@@ -41,31 +45,31 @@ fn conditions_text(
 }
 
 /// The conditions where the row is one of JSON, in the column of that name or in `doc`.
-fn document_text(
+fn document_conditions(
     alloc: Global,
     checked: &Checked<'_>,
     name: &str,
     dialect: Dialect,
     now: &Moment,
-) -> Result<String, Fault>
-    ensures { MatchResult result (λ text. IsTableSql checked.now dialect false name.now now.now (string_bytes text))
+) -> Result<Conditions, Fault>
+    ensures { MatchResult result (λ found. HasTableSql checked.now dialect false name.now now.now found)
         (IsNoTableSql checked.now dialect false name.now now.now) }
 {
     if name.is_empty() {
-        return conditions_text(alloc, checked, Storage::Document("doc"), dialect, now);
+        return conditions_over(alloc, checked, Storage::Document("doc"), dialect, now);
     }
-    conditions_text(alloc, checked, Storage::Document(name), dialect, now)
+    conditions_over(alloc, checked, Storage::Document(name), dialect, now)
 }
 
 /// The conditions where each property has a column, by lines about those with another name.
-fn columns_text(
+fn column_conditions(
     alloc: Global,
     checked: &Checked<'_>,
     lines: &str,
     dialect: Dialect,
     now: &Moment,
-) -> Result<String, Fault>
-    ensures { MatchResult result (λ text. IsTableSql checked.now dialect true lines.now now.now (string_bytes text))
+) -> Result<Conditions, Fault>
+    ensures { MatchResult result (λ found. HasTableSql checked.now dialect true lines.now now.now found)
         (IsNoTableSql checked.now dialect true lines.now now.now) }
 {
     let schema = checked.schema();
@@ -78,7 +82,7 @@ fn columns_text(
     };
     columns_suffice();
     let _nodes = checked.nodes();
-    conditions_text(
+    conditions_over(
         alloc,
         checked,
         Storage::Columns(columns.as_slice()),
@@ -100,9 +104,28 @@ fn line_moment(checked: &Checked<'_>, line: &str) -> Result<Moment, Fault>
     }
 }
 
+/// What was found, with its dialect.
+fn in_dialect(dialect: Dialect, found: Result<Conditions, Fault>) -> Result<Translated, Fault>
+    ensures { MatchResult result (λ it. (it.dialect ≡ dialect) × (found ≡ Ok it.conditions))
+        (λ fault. found ≡ Err fault) }
+{
+    match found {
+        Ok(conditions) => Ok(Translated {
+            dialect,
+            conditions,
+        }),
+        Err(fault) => Err(fault),
+    }
+}
+
 /// The conditions of a filter, by a form and lines about the table.
-fn sql_text(alloc: Global, checked: &Checked<'_>, form: u32, how: &str) -> Result<String, Fault>
-    ensures { MatchResult result (λ text. IsSqlOf (Handle.Filter checked.now) form how.now (string_bytes text))
+fn conditions_by(
+    alloc: Global,
+    checked: &Checked<'_>,
+    form: u32,
+    how: &str,
+) -> Result<Translated, Fault>
+    ensures { MatchResult result (λ it. HasSql (Handle.Filter checked.now) form how.now it.dialect it.conditions)
         (IsNoSql (Handle.Filter checked.now) form how.now) }
 {
     let Some((dialect, by_columns)) = form_of(form) else {
@@ -111,25 +134,58 @@ fn sql_text(alloc: Global, checked: &Checked<'_>, form: u32, how: &str) -> Resul
     let (line, names) = split_first_line(how);
     let now = line_moment(checked, line)?;
     if by_columns {
-        columns_text(alloc, checked, names, dialect, &now)
+        in_dialect(
+            dialect,
+            column_conditions(alloc, checked, names, dialect, &now),
+        )
     } else {
-        document_text(alloc, checked, names, dialect, &now)
+        in_dialect(
+            dialect,
+            document_conditions(alloc, checked, names, dialect, &now),
+        )
     }
 }
 
 /// The conditions of the filter that a handle is, by a form and the bytes of lines about the table.
-pub(crate) fn sql_of(alloc: Global, handle: &Handle, form: u32, how: &[u8]) -> Result<String, Fault>
-    ensures { MatchResult result (λ text. IsSqlOf handle.now form how.now (string_bytes text))
+pub(crate) fn conditions_of(
+    alloc: Global,
+    handle: &Handle,
+    form: u32,
+    how: &[u8],
+) -> Result<Translated, Fault>
+    ensures { MatchResult result (λ it. HasSql handle.now form how.now it.dialect it.conditions)
         (IsNoSql handle.now form how.now) }
 {
     match handle {
         Handle::Filter(held) => match str::from_utf8(how) {
             Ok(how) => {
                 let checked = held.checked();
-                sql_text(alloc, &checked, form, how)
+                conditions_by(alloc, &checked, form, how)
             }
             Err(_) => Err(Fault::NotUtf8),
         },
         _ => Err(Fault::OtherKind),
+    }
+}
+
+/// Conditions as JSON.
+fn json_text(alloc: Global, found: &Translated) -> Result<String, Fault>
+    ensures { MatchResult result (λ text. IsTextOf found.now.dialect found.now.conditions (string_bytes text))
+        (λ fault. fault ≡ Fault.Memory) }
+{
+    match conditions_json(alloc, &found.conditions, found.dialect) {
+        Ok(text) => Ok(text),
+        Err(_) => Err(Fault::Memory),
+    }
+}
+
+/// The conditions of the filter that a handle is, as JSON.
+pub(crate) fn sql_of(alloc: Global, handle: &Handle, form: u32, how: &[u8]) -> Result<String, Fault>
+    ensures { MatchResult result (λ text. IsSqlOf handle.now form how.now (string_bytes text))
+        (IsNoSql handle.now form how.now) }
+{
+    match conditions_of(alloc, handle, form, how) {
+        Ok(found) => json_text(alloc, &found),
+        Err(fault) => Err(fault),
     }
 }

@@ -1,6 +1,6 @@
-use Rattle.report_calls.proofs.SqlSteps.{of_filter}
+use Rattle.report_calls.proofs.SqlSteps.{as_text}
 use Rattle.report_calls.proofs.sql_calls.sql_of.Goals as goal
 
 pub returns-in-Ok : goal.returns-in-Ok
 returns-in-Ok c =
-    of_filter c.args.handle.now c.in-Filter.held c.checked-checked.result c.args.form c.args.how.now c.in-Ok.how.now c.sql_text.result c.in-Filter.is c.checked-checked.ensures c.in-Ok.ensures.cases.0 c.sql_text.ensures
+    as_text c.args.handle.now c.args.form c.args.how.now c.in-Ok.found.dialect c.in-Ok.found.conditions c.json_text.result c.in-Ok.ensures c.json_text.ensures
