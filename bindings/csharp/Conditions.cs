@@ -1,7 +1,4 @@
-using System;
 using System.Collections.Generic;
-using System.Globalization;
-using System.Text;
 
 namespace Odfilter
 {
@@ -16,10 +13,47 @@ namespace Odfilter
     /// string.</summary>
     public sealed class Statement
     {
-        internal Statement(string text, IReadOnlyList<object> parameters)
+        private Statement(string text, IReadOnlyList<object> parameters)
         {
             Text = text;
             Parameters = parameters;
+        }
+
+        /// <summary>A statement of conditions; null where they have no such one.</summary>
+        internal static Statement Of(Handle conditions, StatementNumber which)
+        {
+            Answer answer;
+            var status = Native.odfilter_sql_text(conditions, (uint)which, default(Bytes), out answer);
+            if (status == Status.UnknownNumber)
+            {
+                return null;
+            }
+            var count = 0UL;
+            var text = Odfilter.Text.Of(Odfilter.Text.Written((Bytes buffer, out Answer written) =>
+            {
+                var returned = Native.odfilter_sql_text(conditions, (uint)which, buffer, out written);
+                count = written.Number;
+                return returned;
+            }));
+            var parameters = new object[count];
+            for (var index = 0; index < parameters.Length; index++)
+            {
+                parameters[index] = Value(conditions, which, (uint)index);
+            }
+            return new Statement(text, parameters);
+        }
+
+        private static object Value(Handle conditions, StatementNumber which, uint index)
+        {
+            var value = default(Answer);
+            var text = Odfilter.Text.Written((Bytes buffer, out Answer written) =>
+            {
+                var returned = Native.odfilter_sql_value(conditions, (uint)which, index, buffer, out written);
+                value = written;
+                return returned;
+            });
+            var isWhole = (ValueKind)value.Verdict == ValueKind.Whole;
+            return isWhole ? unchecked((long)value.Number) : (object)Odfilter.Text.Of(text);
         }
 
         public string Text { get; }
@@ -32,12 +66,11 @@ namespace Odfilter
     /// no row can have one.</summary>
     public sealed class Conditions
     {
-        internal Conditions(IReadOnlyDictionary<string, Statement> statements)
+        internal Conditions(Handle made)
         {
-            Statement fault;
-            Outcome = statements["outcome"];
-            Keep = statements["keep"];
-            Fault = statements.TryGetValue("fault", out fault) ? fault : null;
+            Outcome = Statement.Of(made, StatementNumber.Outcome);
+            Keep = Statement.Of(made, StatementNumber.Keep);
+            Fault = Statement.Of(made, StatementNumber.Fault);
         }
 
         public Statement Outcome { get; }
@@ -45,106 +78,5 @@ namespace Odfilter
         public Statement Keep { get; }
 
         public Statement Fault { get; }
-    }
-
-    /// <summary>Reads conditions as the library writes them: JSON of objects, arrays, strings and whole numbers,
-    /// without spaces. .NET Standard 2.0 has no reader of JSON.</summary>
-    internal sealed class ConditionsReader
-    {
-        private readonly string json;
-        private int at;
-
-        internal ConditionsReader(string json)
-        {
-            this.json = json;
-        }
-
-        internal Conditions Read()
-        {
-            var found = new Dictionary<string, Statement>();
-            for (Take('{'); !IsTaken('}'); IsTaken(','))
-            {
-                var name = Text();
-                Take(':');
-                found[name] = Statement();
-            }
-            return new Conditions(found);
-        }
-
-        private Statement Statement()
-        {
-            var text = "";
-            var parameters = new List<object>();
-            for (Take('{'); !IsTaken('}'); IsTaken(','))
-            {
-                var name = Text();
-                Take(':');
-                if (name == "text")
-                {
-                    text = Text();
-                }
-                else
-                {
-                    ReadParameters(parameters);
-                }
-            }
-            return new Statement(text, parameters);
-        }
-
-        private void ReadParameters(List<object> parameters)
-        {
-            for (Take('['); !IsTaken(']'); IsTaken(','))
-            {
-                parameters.Add(json[at] == '"' ? (object)Text() : Number());
-            }
-        }
-
-        private long Number()
-        {
-            var start = at;
-            while (json[at] == '-' || char.IsDigit(json[at]))
-            {
-                at++;
-            }
-            return long.Parse(json.Substring(start, at - start), CultureInfo.InvariantCulture);
-        }
-
-        private string Text()
-        {
-            var text = new StringBuilder();
-            for (Take('"'); !IsTaken('"'); at++)
-            {
-                text.Append(json[at] == '\\' ? Escaped() : json[at]);
-            }
-            return text.ToString();
-        }
-
-        /// <summary>What an escape stands for; it ends at its last character.</summary>
-        private char Escaped()
-        {
-            at++;
-            if (json[at] == 'u')
-            {
-                at += 4;
-                return (char)Convert.ToInt32(json.Substring(at - 3, 4), 16);
-            }
-            var index = "bfnrt".IndexOf(json[at]);
-            return index < 0 ? json[at] : "\b\f\n\r\t"[index];
-        }
-
-        private bool IsTaken(char wanted)
-        {
-            var isThere = json[at] == wanted;
-            at += isThere ? 1 : 0;
-            return isThere;
-        }
-
-        private void Take(char wanted)
-        {
-            if (!IsTaken(wanted))
-            {
-                throw new FormatException("odfilter: not the JSON of conditions, at " + at);
-            }
-        }
     }
 }

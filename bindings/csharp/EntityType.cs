@@ -1,4 +1,6 @@
 using System;
+using System.Collections.Generic;
+using System.Linq;
 
 namespace Odfilter
 {
@@ -7,6 +9,12 @@ namespace Odfilter
     {
         internal EntityType(Handle made) : base(made)
         {
+        }
+
+        /// <summary>The properties of the type, those of its base first.</summary>
+        public IReadOnlyList<DeclaredProperty> Properties
+        {
+            get { return DeclaredType.Of(Open).Single().Properties; }
         }
 
         /// <summary>Checks the text of a filter, or throws a FilterRefusedException.</summary>
@@ -97,8 +105,7 @@ namespace Odfilter
                 case Status.TextFault:
                 case Status.SyntaxFault:
                 case Status.TypeFault:
-                    var message = Text.MessageOf(Open, status, text(), answer);
-                    refusal = new FilterRefusedException(status, text(), answer, message);
+                    refusal = new FilterRefusedException(status, text(), answer, Open);
                     return false;
                 case Status.QueryFault:
                     throw new QueryRefusedException(given, answer);

@@ -9,13 +9,18 @@ namespace Odfilter
     /// TooDeep.</summary>
     public class ODataException : Exception
     {
-        internal ODataException(string code, string message) : base(message)
+        internal ODataException(string code, string message, string json = "") : base(message)
         {
             Code = code;
+            Json = json;
         }
 
         /// <summary>The name of the fault.</summary>
         public string Code { get; }
+
+        /// <summary>The object that the program prints of it by --format json, with the edits that the type suggests;
+        /// empty where there is none.</summary>
+        public string Json { get; }
 
         /// <summary>The error of a status that says everything.</summary>
         internal static Exception Of(Status status)
@@ -72,8 +77,9 @@ namespace Odfilter
     /// <summary>A filter is refused: at Text.Substring(Start, Length), and at Bytes of the text's UTF-8.</summary>
     public sealed class FilterRefusedException : ODataException
     {
-        internal FilterRefusedException(Status status, byte[] text, Answer answer, string message)
-            : base(Odfilter.Text.CodeOf(status, answer), message)
+        internal FilterRefusedException(Status status, byte[] text, Answer answer, Handle type)
+            : base(Odfilter.Text.CodeOf(status, answer), Odfilter.Text.MessageOf(type, status, text, answer),
+                Odfilter.Text.JsonOf(type, status, text, answer))
         {
             Kind = (RefusalKind)(status - Status.TextFault);
             Text = Odfilter.Text.Of(text);
@@ -133,7 +139,8 @@ namespace Odfilter
     public sealed class QueryRefusedException : ODataException
     {
         internal QueryRefusedException(byte[] query, Answer answer)
-            : base(Text.CodeOf(Status.QueryFault, answer), Text.MessageOf(null, Status.QueryFault, query, answer))
+            : base(Text.CodeOf(Status.QueryFault, answer), Text.MessageOf(null, Status.QueryFault, query, answer),
+                Text.JsonOf(null, Status.QueryFault, query, answer))
         {
             Number = answer.Number;
         }
@@ -145,7 +152,8 @@ namespace Odfilter
     public sealed class SchemaException : ODataException
     {
         internal SchemaException(byte[] names, Answer answer)
-            : base(Text.CodeOf(Status.SchemaFault, answer), Text.MessageOf(null, Status.SchemaFault, names, answer))
+            : base(Text.CodeOf(Status.SchemaFault, answer), Text.MessageOf(null, Status.SchemaFault, names, answer),
+                Text.JsonOf(null, Status.SchemaFault, names, answer))
         {
             var first = (int)answer.First;
             var both = new[] { Text.Of(names, 0, first), Text.Of(names, first, names.Length - first) };
@@ -162,7 +170,8 @@ namespace Odfilter
     public sealed class UnknownTypeException : ODataException
     {
         internal UnknownTypeException(string typeName)
-            : base("UnknownType", Text.MessageOf(null, Status.UnknownType, Text.Utf8(typeName), default(Answer)))
+            : base("UnknownType", Text.MessageOf(null, Status.UnknownType, Text.Utf8(typeName), default(Answer)),
+                Text.JsonOf(null, Status.UnknownType, Text.Utf8(typeName), default(Answer)))
         {
             TypeName = typeName;
         }
@@ -171,11 +180,11 @@ namespace Odfilter
     }
 
     /// <summary>A row has no verdict; one that costs more than the judge's bound has the code TooCostly. Lines are
-    /// counted from 1; Kept has the lines that are kept before it.</summary>
+    /// counted from 1; Kept has the lines that are kept before it. The line of Json is null.</summary>
     public sealed class RowException : ODataException
     {
         internal RowException(Status status, Answer answer, byte[] path, ulong line, byte[] kept)
-            : base(Text.CodeOf(status, answer), Sentence(status, answer, path))
+            : base(Text.CodeOf(status, answer), Sentence(status, answer, path), JsonOf(status, answer, path))
         {
             Path = Text.Of(path);
             Line = line;
@@ -193,6 +202,13 @@ namespace Odfilter
         {
             return status == Status.TooCostly ? "The filter costs more on the row than the judge's bound."
                 : Text.MessageOf(null, status, path, answer);
+        }
+
+        /// <summary>Without the line, which may be counted from elsewhere.</summary>
+        private static string JsonOf(Status status, Answer answer, byte[] path)
+        {
+            answer.Number = 0;
+            return status == Status.TooCostly ? "" : Text.JsonOf(null, status, path, answer);
         }
     }
 }

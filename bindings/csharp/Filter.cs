@@ -114,14 +114,19 @@ namespace Odfilter
             var how = Odfilter.Text.Utf8((now ?? "") + "\n" + string.Join("\n", lines));
             var form = (uint)(document == null ? Form.PostgresqlColumns : Form.PostgresqlJson);
             form += dialect == SqlDialect.PostgreSql ? 0 : (uint)Form.SqliteColumns - (uint)Form.PostgresqlColumns;
-            return new ConditionsReader(TextBy((Handle filter, Bytes text, out Answer answer) =>
+            Handle made = null;
+            var filter = Open;
+            var answer = default(Answer);
+            var status = Odfilter.Text.With(
+                how, given => Native.odfilter_new_sql(filter, form, given, out made, out answer));
+            if (status != Status.Ok)
             {
-                var written = default(Answer);
-                var status = Odfilter.Text.With(
-                    how, given => Native.odfilter_sql(filter, form, given, text, out written));
-                answer = written;
-                return status;
-            })).Read();
+                throw ODataException.Of(status);
+            }
+            using (made)
+            {
+                return new Conditions(made);
+            }
         }
 
         private static IEnumerable<string> ColumnLines(IReadOnlyDictionary<string, string> columns)

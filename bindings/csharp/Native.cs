@@ -47,6 +47,20 @@ namespace Odfilter
         SqliteJson = 3,
     }
 
+    internal enum StatementNumber : uint
+    {
+        Outcome = 0,
+        Keep = 1,
+        Fault = 2,
+    }
+
+    internal enum ValueKind : uint
+    {
+        Whole = 0,
+        Text = 1,
+        Instant = 2,
+    }
+
     /// <summary>What a call reports besides its status.</summary>
     [StructLayout(LayoutKind.Sequential)]
     internal struct Answer
@@ -189,6 +203,17 @@ namespace Odfilter
 
         [DllImport(Library)]
         internal static extern Status odfilter_sql(Handle filter, uint form, Bytes how, Bytes text, out Answer answer);
+
+        [DllImport(Library)]
+        internal static extern Status odfilter_new_sql(
+            Handle filter, uint form, Bytes how, out Handle conditions, out Answer answer);
+
+        [DllImport(Library)]
+        internal static extern Status odfilter_sql_text(Handle conditions, uint which, Bytes text, out Answer answer);
+
+        [DllImport(Library)]
+        internal static extern Status odfilter_sql_value(
+            Handle conditions, uint which, uint index, Bytes text, out Answer answer);
 
         [DllImport(Library)]
         internal static extern Status odfilter_new_judge(out Handle judge);

@@ -1,4 +1,5 @@
 using System;
+using System.Collections.Generic;
 using System.IO;
 
 namespace Odfilter
@@ -63,6 +64,12 @@ namespace Odfilter
                 document.CopyTo(all);
                 return Read(all.ToArray());
             }
+        }
+
+        /// <summary>The entity and complex types that it declares, in the byte order of their names.</summary>
+        public IReadOnlyList<DeclaredType> Types
+        {
+            get { return DeclaredType.Of(Open); }
         }
 
         /// <summary>The entity type of that name, with its namespace or the alias of that; or an UnknownTypeException

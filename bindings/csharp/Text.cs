@@ -100,6 +100,20 @@ namespace Odfilter
             }));
         }
 
+        /// <summary>The object of a fault of a text, for programs; the type may be null.</summary>
+        internal static string JsonOf(Handle type, Status status, byte[] about, Answer fault)
+        {
+            return Of(Written((Bytes json, out Answer answer) =>
+            {
+                var written = default(Answer);
+                var returned = With(about, given => type == null
+                    ? Native.odfilter_fault_json(IntPtr.Zero, (uint)status, given, json, ref fault, out written)
+                    : Native.odfilter_fault_json(type, (uint)status, given, json, ref fault, out written));
+                answer = written;
+                return returned;
+            }));
+        }
+
         /// <summary>The decoded text of the option filter or $filter of a query that has one.</summary>
         internal static byte[] FilterText(byte[] query)
         {

@@ -40,6 +40,11 @@ static uint32_t go_check_url(const odfilter_handle *type, const char *query, siz
     return odfilter_check_url(type, BYTES(query), BUFFER(text), filter, answer);
 }
 
+static uint32_t go_types(const odfilter_handle *given, char *text, size_t text_length, odfilter_answer *answer)
+{
+    return odfilter_types(given, BUFFER(text), answer);
+}
+
 static uint32_t go_canonical(const odfilter_handle *filter, char *text, size_t text_length, odfilter_answer *answer)
 {
     return odfilter_canonical(filter, BUFFER(text), answer);
@@ -56,10 +61,22 @@ static uint32_t go_property_paths(const odfilter_handle *filter, char *paths, si
     return odfilter_property_paths(filter, BUFFER(paths), answer);
 }
 
-static uint32_t go_sql(const odfilter_handle *filter, uint32_t form, const char *how, size_t how_length, char *text,
-                       size_t text_length, odfilter_answer *answer)
+static uint32_t go_new_sql(const odfilter_handle *filter, uint32_t form, const char *how, size_t how_length,
+                           odfilter_handle **conditions, odfilter_answer *answer)
 {
-    return odfilter_sql(filter, form, BYTES(how), BUFFER(text), answer);
+    return odfilter_new_sql(filter, form, BYTES(how), conditions, answer);
+}
+
+static uint32_t go_sql_text(const odfilter_handle *conditions, uint32_t which, char *text, size_t text_length,
+                            odfilter_answer *answer)
+{
+    return odfilter_sql_text(conditions, which, BUFFER(text), answer);
+}
+
+static uint32_t go_sql_value(const odfilter_handle *conditions, uint32_t which, uint32_t index, char *text,
+                             size_t text_length, odfilter_answer *answer)
+{
+    return odfilter_sql_value(conditions, which, index, BUFFER(text), answer);
 }
 
 static uint32_t go_set_moment(odfilter_handle *judge, const char *moment, size_t moment_length)
@@ -99,13 +116,20 @@ static uint32_t go_fault_text(const odfilter_handle *type, uint32_t status, cons
 {
     return odfilter_fault_text(type, status, BYTES(about), BUFFER(sentence), fault, answer);
 }
+
+static uint32_t go_fault_json(const odfilter_handle *type, uint32_t status, const char *about, size_t about_length,
+                              char *object, size_t object_length, const odfilter_answer *fault,
+                              odfilter_answer *answer)
+{
+    return odfilter_fault_json(type, status, BYTES(about), BUFFER(object), fault, answer);
+}
 */
 import "C"
 
 import "unsafe"
 
-// Every call of include/odfilter.h that the package makes, over slices. A buffer is never empty: the library takes no
-// NULL there.
+// Every call of include/odfilter.h that the package makes, over slices. An empty one stands at NULL: as a buffer it asks
+// for the length, where a text is all that the call writes.
 
 type (
 	answer = C.odfilter_answer
@@ -157,6 +181,11 @@ func checkURL(of handle, query, text []byte, made *handle, a *answer) status {
 	return status(C.go_check_url(of, from, size, to, most, made, a))
 }
 
+func types(given handle, text []byte, a *answer) status {
+	to, most := address(text)
+	return status(C.go_types(given, to, most, a))
+}
+
 func canonical(filter handle, text []byte, a *answer) status {
 	to, most := address(text)
 	return status(C.go_canonical(filter, to, most, a))
@@ -176,10 +205,19 @@ func needsMoment(filter handle, a *answer) status { return status(C.odfilter_nee
 func nodeCount(filter handle, a *answer) status   { return status(C.odfilter_node_count(filter, a)) }
 func lambdaDepth(filter handle, a *answer) status { return status(C.odfilter_lambda_depth(filter, a)) }
 
-func sql(filter handle, form uint32, how, text []byte, a *answer) status {
+func newSQL(filter handle, form uint32, how []byte, made *handle, a *answer) status {
 	from, size := address(how)
+	return status(C.go_new_sql(filter, C.uint32_t(form), from, size, made, a))
+}
+
+func sqlText(conditions handle, which uint32, text []byte, a *answer) status {
 	to, most := address(text)
-	return status(C.go_sql(filter, C.uint32_t(form), from, size, to, most, a))
+	return status(C.go_sql_text(conditions, C.uint32_t(which), to, most, a))
+}
+
+func sqlValue(conditions handle, which, index uint32, text []byte, a *answer) status {
+	to, most := address(text)
+	return status(C.go_sql_value(conditions, C.uint32_t(which), C.uint32_t(index), to, most, a))
 }
 
 func newJudgeOf(filter handle, made *handle) status {
@@ -227,4 +265,10 @@ func faultText(ofType handle, of status, about, text []byte, fault, a *answer) s
 	from, size := address(about)
 	to, most := address(text)
 	return status(C.go_fault_text(ofType, C.uint32_t(of), from, size, to, most, fault, a))
+}
+
+func faultJSON(ofType handle, of status, about, object []byte, fault, a *answer) status {
+	from, size := address(about)
+	to, most := address(object)
+	return status(C.go_fault_json(ofType, C.uint32_t(of), from, size, to, most, fault, a))
 }

@@ -53,36 +53,37 @@ const (
 )
 
 // A RefusedError says why and where a filter is refused: at Text[Span.Start:Span.Stop]. Code is the fault's name, which
-// stays from version to version; Message is a sentence for people. Piece and Value are those of a Filter.
+// stays from version to version; Message is a sentence for people. Piece and Value are those of a Filter. JSON, of this
+// and other errors, is the object that the program prints by --format json, with the edits that the type suggests.
 type RefusedError struct {
-	Kind                Kind
-	Code, Text, Message string
-	Span, Piece, Value  Span
+	Kind                      Kind
+	Code, Text, Message, JSON string
+	Span, Piece, Value        Span
 }
 
 // A QueryError says why a query is refused. Number is the byte of the '%' for the code BadEscape, and else the index of
 // the option. Both count from 0, empty options too.
 type QueryError struct {
-	Code, Message string
-	Number        uint64
+	Code, Message, JSON string
+	Number              uint64
 }
 
 // A SchemaError says why a document is no schema. Names are those that the fault carries, none to two.
 type SchemaError struct {
-	Code, Message string
-	Names         []string
+	Code, Message, JSON string
+	Names               []string
 }
 
 // An UnknownTypeError says that a schema has no entity type of that name.
-type UnknownTypeError struct{ Name, Message string }
+type UnknownTypeError struct{ Name, Message, JSON string }
 
 // A RowError says why a row has no verdict. Path leads from the row to the value at fault, as Parts/0/Qty; it may be
 // empty. Line counts lines from 1, and Kept has the lines that were kept before it. Of a row that costs more than the
-// judge's bound Code is "TooCostly", and errors.Is finds ErrTooCostly.
+// judge's bound Code is "TooCostly", errors.Is finds ErrTooCostly, and JSON is empty; else JSON has no line.
 type RowError struct {
-	Code, Path, Message string
-	Line                uint64
-	Kept                []byte
+	Code, Path, Message, JSON string
+	Line                      uint64
+	Kept                      []byte
 }
 
 // An UnsayableError says why a filter has no conditions of SQL. Code is "Nul" where a literal or a column's name holds
@@ -140,4 +141,10 @@ func codeOf(s status, fault *answer) string {
 func messageOf(ofType handle, s status, about []byte, fault *answer) string {
 	text, _ := written(func(text []byte, a *answer) status { return faultText(ofType, s, about, text, fault, a) })
 	return string(text)
+}
+
+// jsonOf returns the library's object of a fault of a text.
+func jsonOf(ofType handle, s status, about []byte, fault *answer) string {
+	object, _ := written(func(text []byte, a *answer) status { return faultJSON(ofType, s, about, text, fault, a) })
+	return string(object)
 }

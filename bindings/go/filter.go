@@ -1,8 +1,6 @@
 package odfilter
 
 import (
-	"bytes"
-	"encoding/json"
 	"sort"
 	"strings"
 )
@@ -112,11 +110,12 @@ func (f *Filter) SQL(dialect Dialect, options SQLOptions) (*Conditions, error) {
 		return nil, err
 	}
 	defer of.release()
-	text, err := written(func(text []byte, a *answer) status { return sql(of.at, form, how, text, a) })
-	if err != nil {
-		return nil, err
+	var made handle
+	if s := newSQL(of.at, form, how, &made, new(answer)); s != statusOK {
+		return nil, errorOf(s)
 	}
-	return readConditions(text)
+	defer free(made)
+	return readConditions(made)
 }
 
 // lines returns the options as odfilter_sql takes them.
@@ -138,29 +137,51 @@ func (o SQLOptions) lines() ([]byte, error) {
 	return []byte(strings.Join(append([]string{o.Now}, lines...), "\n")), nil
 }
 
-// readConditions reads what odfilter_sql writes. A number stays whole: a float64 would round it.
-func readConditions(text []byte) (*Conditions, error) {
-	decoder := json.NewDecoder(bytes.NewReader(text))
-	decoder.UseNumber()
+// readConditions reads the conditions of a handle.
+func readConditions(made handle) (*Conditions, error) {
 	found := new(Conditions)
-	if err := decoder.Decode(found); err != nil {
-		return nil, err
-	}
-	for _, it := range []*Statement{&found.Outcome, &found.Keep, found.Fault} {
-		if it == nil {
-			continue
-		}
-		for index, parameter := range it.Parameters {
-			number, isNumber := parameter.(json.Number)
-			if !isNumber {
-				continue
-			}
-			whole, err := number.Int64()
-			if err != nil {
-				return nil, err
-			}
-			it.Parameters[index] = whole
+	for _, it := range []struct {
+		into  *Statement
+		which uint32
+	}{{&found.Outcome, statementOutcome}, {&found.Keep, statementKeep}} {
+		if err := it.into.read(made, it.which); err != nil {
+			return nil, err
 		}
 	}
-	return found, nil
+	if sqlText(made, statementFault, nil, new(answer)) == statusUnknownNumber {
+		return found, nil
+	}
+	found.Fault = new(Statement)
+	return found, found.Fault.read(made, statementFault)
+}
+
+// read reads a statement of conditions, with the values of its parameters.
+func (s *Statement) read(conditions handle, which uint32) error {
+	count := uint32(0)
+	text, err := written(func(text []byte, a *answer) status {
+		got := sqlText(conditions, which, text, a)
+		count = uint32(a.number)
+		return got
+	})
+	s.Text, s.Parameters = string(text), []any{}
+	for index := uint32(0); index < count && err == nil; index++ {
+		var value any
+		value, err = readValue(conditions, which, index)
+		s.Parameters = append(s.Parameters, value)
+	}
+	return err
+}
+
+// readValue returns the value of a parameter: an int64 or a string.
+func readValue(conditions handle, which, index uint32) (any, error) {
+	kind, whole := uint32(valueWhole), int64(0)
+	text, err := written(func(text []byte, a *answer) status {
+		got := sqlValue(conditions, which, index, text, a)
+		kind, whole = uint32(a.verdict), int64(a.number)
+		return got
+	})
+	if kind == valueWhole {
+		return whole, err
+	}
+	return string(text), err
 }

@@ -141,6 +141,10 @@ func rowError(judge handle, s status, a *answer, kept []byte) error {
 	}
 	at, _ := written(func(text []byte, a *answer) status { return path(judge, text, a) })
 	fault.Path, fault.Message = string(at), messageOf(nil, s, at, a)
+	// Line may count from elsewhere, so the object has none
+	alone := *a
+	alone.number = 0
+	fault.JSON = jsonOf(nil, s, at, &alone)
 	return fault
 }
 

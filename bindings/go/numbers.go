@@ -45,6 +45,20 @@ const (
 	formSqliteJSON        uint32 = 3
 )
 
+// The statements of conditions of SQL.
+const (
+	statementOutcome uint32 = 0
+	statementKeep    uint32 = 1
+	statementFault   uint32 = 2
+)
+
+// The kinds of values of their parameters.
+const (
+	valueWhole   uint32 = 0
+	valueText    uint32 = 1
+	valueInstant uint32 = 2
+)
+
 // How many names each fault of a schema carries, by its number.
 var schemaNames = [...]int{0, 0, 0, 0, 1, 2, 1, 1, 2, 2, 0}
 

@@ -44,6 +44,7 @@ func schemaError(names []byte, a *answer) error {
 	return &SchemaError{
 		Code:    codeOf(statusSchemaFault, a),
 		Message: messageOf(nil, statusSchemaFault, names, a),
+		JSON:    jsonOf(nil, statusSchemaFault, names, a),
 		Names:   both[:namesOf(a)],
 	}
 }
@@ -73,7 +74,8 @@ func (s *Schema) Type(name string) (*Type, error) {
 	case statusOK:
 		return &Type{own(made, nil)}, nil
 	case statusUnknownType:
-		return nil, &UnknownTypeError{name, messageOf(nil, found, []byte(name), new(answer))}
+		about, fault := []byte(name), new(answer)
+		return nil, &UnknownTypeError{name, messageOf(nil, found, about, fault), jsonOf(nil, found, about, fault)}
 	default:
 		return nil, errorOf(found)
 	}
@@ -126,10 +128,10 @@ func (t *Type) filter(
 		text := textOf(a)
 		return nil, &RefusedError{
 			Kind: kinds[s], Code: codeOf(s, a), Text: string(text), Message: messageOf(of.at, s, text, a),
-			Span: Span{int(a.start), int(a.stop)}, Piece: piece, Value: value,
+			JSON: jsonOf(of.at, s, text, a), Span: Span{int(a.start), int(a.stop)}, Piece: piece, Value: value,
 		}
 	case statusQueryFault:
-		return nil, &QueryError{codeOf(s, a), messageOf(nil, s, given, a), uint64(a.number)}
+		return nil, &QueryError{codeOf(s, a), messageOf(nil, s, given, a), jsonOf(nil, s, given, a), uint64(a.number)}
 	default:
 		return nil, errorOf(s)
 	}

@@ -2,6 +2,7 @@ package odfilter
 
 import (
 	"bytes"
+	"encoding/json"
 	"errors"
 	"fmt"
 	"os"
@@ -17,6 +18,12 @@ import (
 const document = `{"$Version":"4.01","Mini":{"Item":{"$Kind":"EntityType","ID":{"$Type":"Edm.Int64"},
 "Name":{"$Nullable":true},"Active":{"$Type":"Edm.Boolean"},"Changed":{"$Type":"Edm.DateTimeOffset"},
 "Tags":{"$Collection":true}}}}`
+
+// types with each kind of property
+const typesDocument = `{"$Version":"4.01","Mini":{"Base":{"$Kind":"EntityType","ID":{"$Type":"Edm.Int64"}},
+"Part":{"$Kind":"ComplexType"},"Item":{"$Kind":"EntityType","$BaseType":"Mini.Base",
+"Tags":{"$Collection":true,"$Nullable":true},"Weight":{"$Type":"Edm.Double","$Nullable":true},
+"Parts":{"$Kind":"NavigationProperty","$Type":"Mini.Base","$Collection":true}}}}`
 
 // row returns an item, with a name as JSON.
 func row(id int, name string, active bool) []byte {
@@ -98,6 +105,7 @@ func TestErrors(t *testing.T) {
 	if got := refused.Pointed(); got != "Name eq 'é' and Foo eq 1\n                ^^^" {
 		t.Error(got)
 	}
+	checkObject(t, refused.JSON, "typing", "UnknownProperty", refused.Message)
 	_, err = of.Check("")
 	if !errors.As(err, &refused) || refused.Kind != KindSyntax || refused.Pointed() != "\n^" {
 		t.Errorf("%#v", err)
@@ -114,6 +122,7 @@ func TestErrors(t *testing.T) {
 	if _, err = of.CheckURL("x=1;$filter=Foo"); !errors.As(err, &query) || query.Code != "Disguised" || query.Number != 0 {
 		t.Errorf("%#v", err)
 	}
+	checkObject(t, query.JSON, "query", "Disguised", query.Message)
 	var schema *SchemaError
 	name := strings.Repeat("A", 999)
 	_, err = ReadSchema([]byte(`{"$Version":"4.01","N":{"` + name + `":{"$Kind":"EntityType","P":5}}}`))
@@ -121,22 +130,60 @@ func TestErrors(t *testing.T) {
 		!reflect.DeepEqual(schema.Names[1:], []string{"P"}) {
 		t.Errorf("%#v", err)
 	}
+	checkObject(t, schema.JSON, "schema", "BadProperty", schema.Message)
 	var unknown *UnknownTypeError
 	_, err = must(ReadSchema([]byte(document))).Type("Mini.No")
 	if !errors.As(err, &unknown) || unknown.Name != "Mini.No" {
 		t.Errorf("%#v", err)
 	}
+	checkObject(t, unknown.JSON, "unknown_type", "UnknownType", unknown.Message)
 	var fault *RowError
 	_, err = must(active.NewJudge()).Verdict(bytes.Replace(row(7, "null", true), []byte("7"), []byte(`"7"`), 1))
 	if !errors.As(err, &fault) || fault.Code != "WrongKind" || fault.Path != "ID" || fault.Line != 1 {
 		t.Errorf("%#v", err)
 	}
+	checkObject(t, fault.JSON, "row", "WrongKind", fault.Message)
 	var unsayable *UnsayableError
 	_, err = must(of.Check("Name eq 'a\x00'")).SQL(SQLite, SQLOptions{})
 	if !errors.As(err, &unsayable) || unsayable.Code != "Nul" {
 		t.Errorf("%#v", err)
 	}
 	checkPlainErrors(t, of, active)
+}
+
+// checkObject reads the object of a fault: its class, its name and its sentence.
+func checkObject(t *testing.T, object, class, name, sentence string) {
+	var found struct{ Class, Name, Sentence string }
+	if err := json.Unmarshal([]byte(object), &found); err != nil || found.Class != class || found.Name != name ||
+		found.Sentence != sentence {
+		t.Error(object, err)
+	}
+}
+
+func TestTypes(t *testing.T) {
+	schema := must(ReadSchema([]byte(typesDocument)))
+	id := DeclaredProperty{Name: "ID", Type: "Edm.Int64"}
+	wanted := []DeclaredType{
+		{Name: "Mini.Base", Kind: "entity", Properties: []DeclaredProperty{id}},
+		{Name: "Mini.Item", Kind: "entity", Properties: []DeclaredProperty{
+			id, {Name: "Parts", Type: "Mini.Base", Collection: true, Navigation: true},
+			{Name: "Tags", Type: "Edm.String", Collection: true, Nullable: true}, {Name: "Weight", Nullable: true},
+		}},
+		{Name: "Mini.Part", Kind: "complex"},
+	}
+	if got := must(schema.Types()); !reflect.DeepEqual(got, wanted) {
+		t.Errorf("%+v", got)
+	}
+	if got := must(must(schema.Type("Mini.Item")).Properties()); !reflect.DeepEqual(got, wanted[1].Properties) {
+		t.Errorf("%+v", got)
+	}
+	if got := must(must(ReadSchema([]byte(`{"$Version":"4.01"}`))).Types()); len(got) != 0 {
+		t.Errorf("%+v", got)
+	}
+	schema.Close()
+	if _, err := schema.Types(); !errors.Is(err, ErrClosed) {
+		t.Error(err)
+	}
 }
 
 // checkPlainErrors asks for each error that carries nothing. A lone surrogate is not UTF-8.
@@ -175,6 +222,13 @@ func TestSQL(t *testing.T) {
 	divided := must(must(of.Check("1 div ID eq 1")).SQL(SQLite, SQLOptions{Document: "doc"}))
 	if divided.Fault == nil || !strings.Contains(divided.Outcome.Text, `t."doc"`) {
 		t.Errorf("%#v", divided)
+	}
+	typed := must(of.Check("Name eq '7' and ID gt -7 and Changed ge 1970-01-01T00:00:00Z"))
+	for dialect, instant := range map[Dialect]string{SQLite: "062135769600000000000", PostgreSQL: "0"} {
+		got := must(typed.SQL(dialect, SQLOptions{})).Keep.Parameters
+		if !reflect.DeepEqual(got, []any{"7", int64(-7), instant}) {
+			t.Errorf("%#v", got)
+		}
 	}
 	now := must(of.Check("Changed lt now()"))
 	if _, err := now.SQL(SQLite, SQLOptions{Now: "2026-01-01T00:00:00Z\nID=x"}); !errors.Is(err, ErrNotAMoment) {

@@ -284,6 +284,12 @@ static napi_value path(napi_env env, napi_callback_info info)
     return written(env, info, odfilter_path);
 }
 
+/* of a schema or a type */
+static napi_value types(napi_env env, napi_callback_info info)
+{
+    return written(env, info, odfilter_types);
+}
+
 typedef uint32_t (*counts)(const odfilter_handle *, odfilter_answer *);
 
 /* a call(filter, answer) that reports a number */
@@ -316,19 +322,48 @@ static napi_value lambda_depth(napi_env env, napi_callback_info info)
     return counted(env, info, odfilter_lambda_depth);
 }
 
-/* sql(filter, form, how, text, answer) */
-static napi_value sql(napi_env env, napi_callback_info info)
+/* newSql(filter, form, how) */
+static napi_value new_sql(napi_env env, napi_callback_info info)
 {
     struct call call = call_of(env, info);
-    odfilter_handle *filter = handle_at(&call, 0);
+    odfilter_handle *filter = handle_at(&call, 0), *conditions = NULL;
     uint32_t form = number_at(&call, 1), status;
     odfilter_bytes how = bytes_at(&call, 2);
+    odfilter_answer answer = {0};
+    if (!call.is_well)
+        return refused(&call);
+    status = odfilter_new_sql(filter, form, how, &conditions, &answer);
+    return made(&call, status, conditions);
+}
+
+/* sqlText(conditions, which, text, answer) */
+static napi_value sql_text(napi_env env, napi_callback_info info)
+{
+    struct call call = call_of(env, info);
+    odfilter_handle *conditions = handle_at(&call, 0);
+    uint32_t which = number_at(&call, 1), status;
+    odfilter_buffer text = buffer_at(&call, 2);
+    double *fields = answer_at(&call, 3);
+    odfilter_answer answer = {0};
+    if (!call.is_well)
+        return refused(&call);
+    status = odfilter_sql_text(conditions, which, text, &answer);
+    write_answer(fields, &answer);
+    return status_of(&call, status);
+}
+
+/* sqlValue(conditions, which, index, text, answer) */
+static napi_value sql_value(napi_env env, napi_callback_info info)
+{
+    struct call call = call_of(env, info);
+    odfilter_handle *conditions = handle_at(&call, 0);
+    uint32_t which = number_at(&call, 1), index = number_at(&call, 2), status;
     odfilter_buffer text = buffer_at(&call, 3);
     double *fields = answer_at(&call, 4);
     odfilter_answer answer = {0};
     if (!call.is_well)
         return refused(&call);
-    status = odfilter_sql(filter, form, how, text, &answer);
+    status = odfilter_sql_value(conditions, which, index, text, &answer);
     write_answer(fields, &answer);
     return status_of(&call, status);
 }
@@ -446,22 +481,35 @@ static napi_value fault_name(napi_env env, napi_callback_info info)
     return status_of(&call, status);
 }
 
-/* faultText(type or null, status, about, sentence, fault, answer), where the fault is an answer */
-static napi_value fault_text(napi_env env, napi_callback_info info)
+typedef uint32_t (*reports)(const odfilter_handle *, uint32_t, odfilter_bytes, odfilter_buffer, const odfilter_answer *,
+                          odfilter_answer *);
+
+/* a call(type or null, status, about, text, fault, answer) that writes a text about a fault, which is an answer */
+static napi_value reported(napi_env env, napi_callback_info info, reports report)
 {
     struct call call = call_of(env, info);
     odfilter_handle *type = handle_or_null_at(&call, 0);
     uint32_t status = number_at(&call, 1);
     odfilter_bytes about = bytes_at(&call, 2);
-    odfilter_buffer sentence = buffer_at(&call, 3);
+    odfilter_buffer text = buffer_at(&call, 3);
     double *faults = answer_at(&call, 4), *fields = answer_at(&call, 5);
     odfilter_answer fault, answer = {0};
     if (!call.is_well)
         return refused(&call);
     fault = read_answer(faults);
-    status = odfilter_fault_text(type, status, about, sentence, &fault, &answer);
+    status = report(type, status, about, text, &fault, &answer);
     write_answer(fields, &answer);
     return status_of(&call, status);
+}
+
+static napi_value fault_text(napi_env env, napi_callback_info info)
+{
+    return reported(env, info, odfilter_fault_text);
+}
+
+static napi_value fault_json(napi_env env, napi_callback_info info)
+{
+    return reported(env, info, odfilter_fault_json);
 }
 
 NAPI_MODULE_INIT()
@@ -475,10 +523,13 @@ NAPI_MODULE_INIT()
         {"canonical", NULL, canonical, NULL, NULL, NULL, napi_enumerable, NULL},
         {"explain", NULL, explain, NULL, NULL, NULL, napi_enumerable, NULL},
         {"propertyPaths", NULL, property_paths, NULL, NULL, NULL, napi_enumerable, NULL},
+        {"types", NULL, types, NULL, NULL, NULL, napi_enumerable, NULL},
         {"needsMoment", NULL, needs_moment, NULL, NULL, NULL, napi_enumerable, NULL},
         {"nodeCount", NULL, node_count, NULL, NULL, NULL, napi_enumerable, NULL},
         {"lambdaDepth", NULL, lambda_depth, NULL, NULL, NULL, napi_enumerable, NULL},
-        {"sql", NULL, sql, NULL, NULL, NULL, napi_enumerable, NULL},
+        {"newSql", NULL, new_sql, NULL, NULL, NULL, napi_enumerable, NULL},
+        {"sqlText", NULL, sql_text, NULL, NULL, NULL, napi_enumerable, NULL},
+        {"sqlValue", NULL, sql_value, NULL, NULL, NULL, napi_enumerable, NULL},
         {"newJudge", NULL, new_judge, NULL, NULL, NULL, napi_enumerable, NULL},
         {"setMoment", NULL, set_moment, NULL, NULL, NULL, napi_enumerable, NULL},
         {"setBound", NULL, set_bound, NULL, NULL, NULL, napi_enumerable, NULL},
@@ -489,6 +540,7 @@ NAPI_MODULE_INIT()
         {"version", NULL, version, NULL, NULL, NULL, napi_enumerable, NULL},
         {"faultName", NULL, fault_name, NULL, NULL, NULL, napi_enumerable, NULL},
         {"faultText", NULL, fault_text, NULL, NULL, NULL, napi_enumerable, NULL},
+        {"faultJson", NULL, fault_json, NULL, NULL, NULL, napi_enumerable, NULL},
     };
     if (odfilter_fits(sizeof(odfilter_answer)) != ODFILTER_OK)
         napi_throw_error(env, NULL, "odfilter: the library is newer than this addon: its answers are longer");

@@ -69,4 +69,16 @@ function messageOf(type, status, about, fault) {
   return written((text, answer) => native.faultText(type, status, about, text, fault, answer));
 }
 
-module.exports = { native, FIELD, newAnswer, utf8, bytes, failed, written, writtenBytes, codeOf, messageOf };
+/** The object of a fault of a text, as the program prints it by `--format json`; undefined where there is none. */
+function objectOf(type, status, about, fault) {
+  if (status === STATUS.TOO_COSTLY) return undefined;
+  return JSON.parse(written((text, answer) => native.faultJson(type, status, about, text, fault, answer)));
+}
+
+/** What the library reports of a fault: the sentence, and the code and the object for programs. */
+function reported(type, status, about, fault) {
+  const more = { code: codeOf(status, fault), object: objectOf(type, status, about, fault) };
+  return [messageOf(type, status, about, fault), more];
+}
+
+module.exports = { native, FIELD, newAnswer, utf8, bytes, failed, written, writtenBytes, reported };

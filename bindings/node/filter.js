@@ -1,6 +1,6 @@
 'use strict';
 const { native, FIELD, newAnswer, utf8, failed, written } = require('./calls.js');
-const { STATUS, FORM } = require('./numbers.js');
+const { STATUS, FORM, STATEMENT, VALUE } = require('./numbers.js');
 const { Held } = require('./held.js');
 const { Judge } = require('./judge.js');
 
@@ -72,7 +72,14 @@ class Filter extends Held {
     const moment = now === undefined ? '' : momentOf(now);
     if (moment.includes('\n')) throw failed(STATUS.NOT_A_MOMENT);
     const how = utf8([moment, ...lines].join('\n'), 'the name of a column');
-    return conditions(written((text, answer) => native.sql(this.handle, form, how, text, answer)));
+    const made = native.newSql(this.handle, form, how);
+    if (typeof made === 'number') throw failed(made);
+    try {
+      const [outcome, keep, fault] = Object.values(STATEMENT).map((which) => statement(made, which));
+      return fault === undefined ? { outcome, keep } : { outcome, keep, fault };
+    } finally {
+      native.free(made);
+    }
   }
 }
 
@@ -85,14 +92,28 @@ function columnLines(columns) {
   });
 }
 
-/** Conditions as the library writes them. JSON.parse would round a number of more digits than 2^53 has. */
-function conditions(json) {
-  const marked = json.replace(/"(?:[^"\\]|\\.)*"|-?\d{16,}/g, (it) => (it[0] === '"' ? it : `["${it}"]`));
-  const found = JSON.parse(marked);
-  for (const statement of Object.values(found)) {
-    statement.parameters = statement.parameters.map((it) => (Array.isArray(it) ? whole(it[0]) : it));
-  }
-  return found;
+/** A statement of conditions; undefined where they have no such one. */
+function statement(conditions, which) {
+  const counted = newAnswer();
+  if (native.sqlText(conditions, which, new Uint8Array(0), counted) === STATUS.UNKNOWN_NUMBER) return undefined;
+  const text = written((buffer, answer) => {
+    const status = native.sqlText(conditions, which, buffer, answer);
+    counted.set(answer);
+    return status;
+  });
+  const parameters = Array.from({ length: counted[FIELD.number] }, (_, index) => value(conditions, which, index));
+  return { text, parameters };
+}
+
+/** The value of a parameter. An answer's number would round one of more digits than 2^53 has; its text does not. */
+function value(conditions, which, index) {
+  let kind;
+  const text = written((buffer, answer) => {
+    const status = native.sqlValue(conditions, which, index, buffer, answer);
+    kind = answer[FIELD.verdict];
+    return status;
+  });
+  return kind === VALUE.WHOLE ? whole(text) : text;
 }
 
 const whole = (digits) => (Number.isSafeInteger(Number(digits)) ? Number(digits) : BigInt(digits));

@@ -5,9 +5,13 @@ export type BytesOrText = string | Uint8Array;
 /** The first offset and the one after the last. */
 export type Span = readonly [start: number, stop: number];
 
-/** Why a call gave nothing. `code` stays from version to version; `message` is a sentence for people. */
+/**
+ * Why a call gave nothing. `code` stays from version to version; `message` is a sentence for people. `object` is what the
+ * program prints of it by `--format json`, with the edits that the type suggests; it is undefined where there is none.
+ */
 export class ODataError extends Error {
   readonly code: string;
+  readonly object?: Readonly<Record<string, unknown>>;
 }
 /** A filter is refused: `span` counts characters of `text` (UTF-16 units), `byteSpan` bytes of its UTF-8. */
 export class FilterRefused extends ODataError {
@@ -35,7 +39,7 @@ export class UnknownType extends ODataError {
 }
 /**
  * A row has no verdict; one that costs more than the bound has the code TooCostly. Lines are counted from 1; `kept` has
- * the lines that are kept before it.
+ * the lines that are kept before it. The line of `object` is null.
  */
 export class RowFault extends ODataError {
   readonly path: string;
@@ -54,6 +58,25 @@ export class Schema extends Held {
   static read(document: BytesOrText): Schema;
   /** The entity type of that name, with its namespace or the alias of that. Throws UnknownType. */
   type(name: string): EntityType;
+  /** The entity and complex types that it declares, in the byte order of their names. */
+  readonly types: readonly DeclaredType[];
+}
+/** An entity or complex type as a schema declares it. */
+export interface DeclaredType {
+  readonly name: string;
+  readonly kind: 'entity' | 'complex';
+  readonly properties: readonly DeclaredProperty[];
+}
+/**
+ * A property as a schema declares it; of a collection, `type` and `nullable` are those of an item. `type` is undefined
+ * where it is not read: neither filters nor rows can have the property.
+ */
+export interface DeclaredProperty {
+  readonly name: string;
+  readonly type?: string;
+  readonly collection: boolean;
+  readonly nullable: boolean;
+  readonly navigation: boolean;
 }
 /** An entity type of a schema, for whose entities filters are checked. */
 export class EntityType extends Held {
@@ -64,6 +87,8 @@ export class EntityType extends Held {
   checkUrl(query: BytesOrText): Filter | undefined;
   /** The filter of a query with no other option of the standard's. Throws FilterRefused, QueryRefused. */
   checkQuery(query: BytesOrText): Filter | undefined;
+  /** The properties of the type, those of its base first. */
+  readonly properties: readonly DeclaredProperty[];
 }
 /** An expression of SQL over a table `t`, whose parameters are numbered from 1. */
 export interface Statement {

@@ -1,10 +1,11 @@
 'use strict';
-const { native, FIELD, newAnswer, utf8, bytes, failed, written, codeOf, messageOf } = require('./calls.js');
+const { native, FIELD, newAnswer, utf8, bytes, failed, written, reported } = require('./calls.js');
 const errors = require('./errors.js');
 const { STATUS, SCHEMA_NAMES } = require('./numbers.js');
 const { Held } = require('./held.js');
 const { Filter } = require('./filter.js');
 const { Judge } = require('./judge.js');
+const { declaredBy } = require('./types.js');
 
 const { FilterRefused, QueryRefused, SchemaFault, UnknownType } = errors;
 const KINDS = { [STATUS.TEXT_FAULT]: 'text', [STATUS.SYNTAX_FAULT]: 'syntax', [STATUS.TYPE_FAULT]: 'type' };
@@ -29,7 +30,13 @@ class Schema extends Held {
     const made = native.findType(this.handle, given);
     if (typeof made !== 'number') return new EntityType(made);
     if (made !== STATUS.UNKNOWN_TYPE) throw failed(made);
-    throw new UnknownType(messageOf(null, made, given, newAnswer()), { code: 'UnknownType', typeName: name });
+    const [message, more] = reported(null, made, given, newAnswer());
+    throw new UnknownType(message, { ...more, typeName: name });
+  }
+
+  /** The entity and complex types that it declares. */
+  get types() {
+    return declaredBy(this.handle);
   }
 }
 
@@ -37,8 +44,8 @@ function schemaFault(names, answer) {
   const first = answer[FIELD.first];
   const both = [names.toString('utf8', 0, first), names.toString('utf8', first)];
   const count = SCHEMA_NAMES[answer[FIELD.fault]] ?? (names.length === 0 ? 0 : 2);
-  const code = codeOf(STATUS.SCHEMA_FAULT, answer);
-  return new SchemaFault(messageOf(null, STATUS.SCHEMA_FAULT, names, answer), { code, names: both.slice(0, count) });
+  const [message, more] = reported(null, STATUS.SCHEMA_FAULT, names, answer);
+  return new SchemaFault(message, { ...more, names: both.slice(0, count) });
 }
 
 /** An entity type of a schema, for whose entities filters are checked. */
@@ -73,15 +80,21 @@ class EntityType extends Held {
     if (status === STATUS.OK) return new Filter(made, textOf().toString('utf8'), piece, value);
     if (status in KINDS) throw this.#refusal(status, answer, textOf(), { piece, value });
     if (status !== STATUS.QUERY_FAULT) throw failed(status);
-    const more = { code: codeOf(status, answer), number: answer[FIELD.number] };
-    throw new QueryRefused(messageOf(null, status, given, answer), more);
+    const [message, more] = reported(null, status, given, answer);
+    throw new QueryRefused(message, { ...more, number: answer[FIELD.number] });
   }
 
   #refusal(status, answer, utf8Text, places) {
     const byteSpan = [answer[FIELD.start], answer[FIELD.stop]];
     const span = byteSpan.map((offset) => utf8Text.toString('utf8', 0, offset).length);
-    const more = { kind: KINDS[status], code: codeOf(status, answer), text: utf8Text.toString('utf8'), span, byteSpan };
-    return new FilterRefused(messageOf(this.handle, status, utf8Text, answer), { ...more, ...places });
+    const [message, more] = reported(this.handle, status, utf8Text, answer);
+    const text = utf8Text.toString('utf8');
+    return new FilterRefused(message, { kind: KINDS[status], ...more, text, span, byteSpan, ...places });
+  }
+
+  /** The properties of the type, those of its base first. */
+  get properties() {
+    return declaredBy(this.handle)[0].properties;
   }
 }
 

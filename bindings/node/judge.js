@@ -1,5 +1,5 @@
 'use strict';
-const { native, FIELD, newAnswer, utf8, bytes, failed, writtenBytes, codeOf, messageOf } = require('./calls.js');
+const { native, FIELD, newAnswer, utf8, bytes, failed, writtenBytes, reported } = require('./calls.js');
 const { RowFault } = require('./errors.js');
 const { STATUS, VERDICT } = require('./numbers.js');
 const { Held } = require('./held.js');
@@ -55,8 +55,11 @@ class Judge extends Held {
   #fault(status, answer, line, kept) {
     if (!ROW_FAULTS.has(status)) return failed(status);
     const path = writtenBytes((text, of) => native.path(this.handle, text, of));
-    const more = { code: codeOf(status, answer), path: path.toString('utf8'), line, kept };
-    return new RowFault(messageOf(null, status, path, answer), more);
+    // the line may be counted from elsewhere, so the object has none
+    const alone = Float64Array.from(answer);
+    alone[FIELD.number] = 0;
+    const [message, more] = reported(null, status, path, alone);
+    return new RowFault(message, { ...more, path: path.toString('utf8'), line, kept });
   }
 
   /** A stream of lines in, of kept lines out. The first line at fault is its error, after what is kept before it. */

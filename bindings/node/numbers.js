@@ -12,6 +12,13 @@ const VERDICT = {
 const FORM = {
   POSTGRESQL_COLUMNS: 0, POSTGRESQL_JSON: 1, SQLITE_COLUMNS: 2, SQLITE_JSON: 3,
 };
+// the statements of conditions of SQL, and the kinds of values of their parameters
+const STATEMENT = {
+  OUTCOME: 0, KEEP: 1, FAULT: 2,
+};
+const VALUE = {
+  WHOLE: 0, TEXT: 1, INSTANT: 2,
+};
 // how many names each fault of a schema carries, by its number
 const SCHEMA_NAMES = [0, 0, 0, 0, 1, 2, 1, 1, 2, 2, 0];
 // the names of faults, by their status and number
@@ -44,4 +51,4 @@ const FAULTS = {
   28: { 0: 'UnknownColumn' },
 };
 
-module.exports = { STATUS, VERDICT, FORM, SCHEMA_NAMES, FAULTS };
+module.exports = { STATUS, VERDICT, FORM, STATEMENT, VALUE, SCHEMA_NAMES, FAULTS };

@@ -13,12 +13,20 @@ internal static partial class Tests
         + "\"ID\":{\"$Type\":\"Edm.Int64\"},\"Name\":{\"$Nullable\":true},\"Active\":{\"$Type\":\"Edm.Boolean\"},"
         + "\"Changed\":{\"$Type\":\"Edm.DateTimeOffset\"},\"Tags\":{\"$Collection\":true}}}}";
 
+    /// <summary>Types with each kind of property.</summary>
+    private const string TypesDocument = "{\"$Version\":\"4.01\",\"Mini\":{\"Base\":{\"$Kind\":\"EntityType\","
+        + "\"ID\":{\"$Type\":\"Edm.Int64\"}},\"Part\":{\"$Kind\":\"ComplexType\"},\"Item\":{\"$Kind\":\"EntityType\","
+        + "\"$BaseType\":\"Mini.Base\",\"Tags\":{\"$Collection\":true,\"$Nullable\":true},"
+        + "\"Weight\":{\"$Type\":\"Edm.Double\",\"$Nullable\":true},"
+        + "\"Parts\":{\"$Kind\":\"NavigationProperty\",\"$Type\":\"Mini.Base\",\"$Collection\":true}}}}";
+
     private static int passed;
     private static int failed;
 
     private static int Main()
     {
         ChecksOfFilters();
+        ChecksOfTypes();
         ChecksOfVerdicts();
         ChecksOfRefusals();
         ChecksOfErrors();
@@ -110,6 +118,28 @@ internal static partial class Tests
         That("a stream", Schema.Read(stream).Type("Mini.Item") != null, null);
     }
 
+    private static void ChecksOfTypes()
+    {
+        var schema = Schema.Read(TypesDocument);
+        SameList("types", schema.Types.Select(it => it.Kind + " " + it.Name + " " + it.Properties.Count),
+            "entity Mini.Base 1", "entity Mini.Item 4", "complex Mini.Part 0");
+        var properties = schema.Type("Mini.Item").Properties;
+        SameList("names", properties.Select(it => it.Name), "ID", "Parts", "Tags", "Weight");
+        SameList("types of properties", properties.Select(it => it.Type), "Edm.Int64", "Mini.Base", "Edm.String", null);
+        SameList("collections", properties.Select(it => it.IsCollection), false, true, true, false);
+        SameList("nullable", properties.Select(it => it.IsNullable), false, false, true, true);
+        SameList("navigation", properties.Select(it => it.IsNavigation), false, true, false, false);
+        Same("no types", Schema.Read("{\"$Version\":\"4.01\"}").Types.Count, 0);
+    }
+
+    /// <summary>The object of a fault has its class, its name and its sentence.</summary>
+    private static void Object(ODataException error, string wanted)
+    {
+        That(wanted, error.Json.StartsWith("{\"class\":\"" + wanted + "\",") && error.Json.EndsWith("}"), error.Json);
+        That(error.Code, error.Json.Contains("\"name\":\"" + error.Code + "\""), error.Json);
+        That(error.Message, error.Json.Contains("\"sentence\":\"" + error.Message.Replace("\"", "\\\"")), error.Json);
+    }
+
     private static void ChecksOfVerdicts()
     {
         var judge = Item().Check("Active and contains(Name,'a')").NewJudge();
@@ -139,6 +169,7 @@ internal static partial class Tests
         Same("span", text.Substring(refused.Start, refused.Length), "Foo");
         Same("bytes", refused.Bytes.Start, refused.Start + 3);
         Same("pointed", refused.Pointed, text + "\n                 ^^^");
+        Object(refused, "typing");
         Same("empty", Thrown<FilterRefusedException>(() => Item().Check("")).Pointed, "\n^");
         refused = Thrown<FilterRefusedException>(() => Item().CheckUrl("$top=5&$filter=Foo%20eq%201"));
         Same("in a URL", refused.Piece + " " + refused.Value, "7..27 15..27");
@@ -150,14 +181,19 @@ internal static partial class Tests
     {
         var query = Thrown<QueryRefusedException>(() => Item().CheckUrl("a&x=1;$filter=Foo"));
         Same("query", query.Code + query.Number, "Disguised1");
+        Object(query, "query");
         var name = new string('A', 999);
         var document = "{\"$Version\":\"4.01\",\"N\":{\"" + name + "\":{\"$Kind\":\"EntityType\",\"P\":5}}}";
         var schema = Thrown<SchemaException>(() => Schema.Read(document));
         SameList(schema.Code, schema.Names, "N." + name, "P");
-        Same("type", Thrown<UnknownTypeException>(() => Schema.Read(Document).Type("Mini.No")).TypeName, "Mini.No");
+        Object(schema, "schema");
+        var unknown = Thrown<UnknownTypeException>(() => Schema.Read(Document).Type("Mini.No"));
+        Same("type", unknown.TypeName, "Mini.No");
+        Object(unknown, "unknown_type");
         var text = Row(7, "null", true);
         var fault = Thrown<RowException>(() => Item().Check("Active").NewJudge().Verdict(text.Replace("7", "\"7\"")));
         Same("row", fault.Code + fault.Path + fault.Line, "WrongKindID1");
+        Object(fault, "row");
         var needs = Item().Check("Changed lt now()");
         Code("MomentNeeded", () => needs.NewJudge().Verdict(text));
         Code("MomentNeeded", () => needs.Sql(SqlDialect.Sqlite));
@@ -201,6 +237,9 @@ internal static partial class Tests
         That("over JSON", divided.Fault != null && divided.Outcome.Text.Contains("t.\"doc\""), divided.Outcome.Text);
         var escaped = Item().Check("Name eq '\t\n\u0001\u00e9'").Sql(SqlDialect.Sqlite);
         SameList<object>("escapes", escaped.Keep.Parameters, "\t\n\u0001\u00e9");
+        var typed = Item().Check("Name eq '7' and ID gt -7 and Changed ge 1970-01-01T00:00:00Z");
+        SameList<object>("kinds", typed.Sql(SqlDialect.Sqlite).Keep.Parameters, "7", -7L, "062135769600000000000");
+        SameList<object>("in PostgreSQL", typed.Sql(SqlDialect.PostgreSql).Keep.Parameters, "7", -7L, "0");
     }
 
     private static void ChecksOfLines()

@@ -31,6 +31,22 @@ test('a refused filter has its span in characters and in bytes', () => {
   assert.deepEqual([asked.code, asked.text, asked.byteSpan], ['BadCharacter', "Name eq\n'\u00e9'", [7, 8]]);
 });
 
+test('the object of each kind of mistake', () => {
+  const calls = {
+    typing: () => item().check('name eq 1'), query: () => item().checkUrl('x=1;$filter=Foo'),
+    schema: () => odfilter.Schema.read('{}'), unknown_type: () => odfilter.Schema.read(DOCUMENT).type('Mini.No'),
+    row: () => item().check('Active').judge().verdict('{}'), json: () => item().check('Active').judge().verdict('{'),
+  };
+  for (const [wanted, call] of Object.entries(calls)) {
+    const { code, message, object } = thrown(call);
+    assert.deepEqual([object.class, object.name, object.sentence, object.line], [wanted, code, message, null]);
+  }
+  const refused = thrown(() => item().check("name eq 'a'")).object;
+  assert.deepEqual(refused.suggestions, [{ start: 0, end: 4, text: 'Name' }]);
+  const costly = thrown(() => item().check("Tags/any(t:t eq 'z')").judge({ bound: 2 }).verdict(row(1, 'null', true)));
+  assert.equal(costly.object, undefined);
+});
+
 test('the error of each kind of mistake', () => {
   const long = 'A'.repeat(999);
   const query = thrown(() => item().checkUrl('x=1;$filter=Foo'));

@@ -3,7 +3,7 @@ const assert = require('node:assert/strict');
 const { test } = require('node:test');
 const { setImmediate } = require('node:timers/promises');
 const { Worker, isMainThread, workerData } = require('node:worker_threads');
-const { DOCUMENT, row } = require('./items.js');
+const { DOCUMENT, TYPES, row } = require('./items.js');
 const odfilter = require('../index.js');
 
 const item = () => odfilter.Schema.read(DOCUMENT).type('Mini.Item');
@@ -38,6 +38,23 @@ if (!isMainThread) {
     for (const bound of [2, 2n, 2n ** 70n]) assert.equal(costly.judge({ bound }).verdict(row(1, 'null', true)), true);
   });
 
+  test('declared types', () => {
+    const plain = { collection: false, nullable: false, navigation: false };
+    const id = { name: 'ID', type: 'Edm.Int64', ...plain };
+    const properties = [
+      id, { ...plain, name: 'Parts', type: 'Mini.Base', collection: true, navigation: true },
+      { ...plain, name: 'Tags', type: 'Edm.String', collection: true, nullable: true },
+      { ...plain, name: 'Weight', type: undefined, nullable: true },
+    ];
+    const schema = odfilter.Schema.read(TYPES);
+    assert.deepEqual(schema.types, [
+      { name: 'Mini.Base', kind: 'entity', properties: [id] }, { name: 'Mini.Item', kind: 'entity', properties },
+      { name: 'Mini.Part', kind: 'complex', properties: [] },
+    ]);
+    assert.deepEqual(schema.type('Mini.Item').properties, properties);
+    assert.deepEqual(odfilter.Schema.read('{"$Version":"4.01"}').types, []);
+  });
+
   test('SQL', () => {
     const filter = item().check("ID eq 9007199254740993 and Name eq 'a''b' and ID ne 1234567890123456");
     const { keep, fault } = filter.sql('postgresql', { columns: { ID: 'key' } });
@@ -48,6 +65,9 @@ if (!isMainThread) {
     assert.ok(divided.fault.text.length > 0 && divided.outcome.text.includes('t."doc"'));
     const digits = item().check("Name eq '\"12345678901234567890\\'").sql('sqlite').keep.parameters;
     assert.deepEqual(digits, ['"12345678901234567890\\']);
+    const typed = item().check("Name eq '7' and ID gt -7 and Changed ge 1970-01-01T00:00:00Z");
+    assert.deepEqual(typed.sql('sqlite').keep.parameters, ['7', -7, '062135769600000000000']);
+    assert.deepEqual(typed.sql('postgresql').keep.parameters, ['7', -7, '0']);
     assert.throws(() => filter.sql('mysql'), RangeError);
   });
 

@@ -11,12 +11,13 @@ try {
   const found: string | undefined = item.checkUrl('$filter=Active')?.canonical;
   const kept: Uint8Array = filter.judge().filterLines('').text;
   process.stdin.pipe(filter.judge().stream()).pipe(process.stdout);
-  console.log(verdict, parameter, found, kept.length, filter.nodeCount + 1, version().length);
+  const types: readonly string[] = item.properties.map((it) => it.type ?? '?');
+  console.log(verdict, parameter, found, kept.length, filter.nodeCount + 1, version().length, types);
   filter.dispose();
 } catch (error) {
   if (error instanceof FilterRefused) console.log(error.span[0], error.byteSpan[1], error.pointed, error.kind);
   else if (error instanceof RowFault) console.log(error.path, error.line + 1, error.kept.length);
-  else if (error instanceof ODataError) console.log(error.code);
+  else if (error instanceof ODataError) console.log(error.code, error.object?.class);
 }
 // @ts-expect-error: there is no such dialect
 item.check('Active').sql('mysql');

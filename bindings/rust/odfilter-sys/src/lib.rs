@@ -37,6 +37,12 @@ pub const ODFILTER_POSTGRESQL_COLUMNS: u32 = 0;
 pub const ODFILTER_POSTGRESQL_JSON: u32 = 1;
 pub const ODFILTER_SQLITE_COLUMNS: u32 = 2;
 pub const ODFILTER_SQLITE_JSON: u32 = 3;
+pub const ODFILTER_SQL_OUTCOME: u32 = 0;
+pub const ODFILTER_SQL_KEEP: u32 = 1;
+pub const ODFILTER_SQL_FAULT: u32 = 2;
+pub const ODFILTER_VALUE_WHOLE: u32 = 0;
+pub const ODFILTER_VALUE_TEXT: u32 = 1;
+pub const ODFILTER_VALUE_INSTANT: u32 = 2;
 
 /// How many names each fault of a schema carries, by its number.
 pub const SCHEMA_NAMES: [usize; 11] = [0, 0, 0, 0, 1, 2, 1, 1, 2, 2, 0];
@@ -97,7 +103,7 @@ pub const FAULT_NAMES: &[(u32, u32, &str)] = &[
     (28, 0, "UnknownColumn"),
 ];
 
-/// A schema, a type, a filter or a judge.
+/// A schema, a type, a filter, a judge, or conditions of SQL.
 #[repr(C)]
 pub struct odfilter_handle {
     _private: [u8; 0],
@@ -166,6 +172,14 @@ extern "C" {
     pub fn odfilter_sql(
         filter: *const odfilter_handle, form: u32, how: odfilter_bytes, text: odfilter_buffer,
         answer: *mut odfilter_answer) -> u32;
+    pub fn odfilter_new_sql(
+        filter: *const odfilter_handle, form: u32, how: odfilter_bytes, conditions: *mut *mut odfilter_handle,
+        answer: *mut odfilter_answer) -> u32;
+    pub fn odfilter_sql_text(
+        conditions: *const odfilter_handle, which: u32, text: odfilter_buffer, answer: *mut odfilter_answer) -> u32;
+    pub fn odfilter_sql_value(
+        conditions: *const odfilter_handle, which: u32, index: u32, text: odfilter_buffer,
+        answer: *mut odfilter_answer) -> u32;
     pub fn odfilter_new_judge(judge: *mut *mut odfilter_handle) -> u32;
     pub fn odfilter_new_judge_of(filter: *const odfilter_handle, judge: *mut *mut odfilter_handle) -> u32;
     pub fn odfilter_set_moment(judge: *mut odfilter_handle, moment: odfilter_bytes) -> u32;
@@ -216,6 +230,15 @@ extern "C" {
     pub fn odfilter_flat_sql(
         filter: *const odfilter_handle, form: u32, how: *const c_char, how_length: usize, text: *mut c_char,
         text_length: usize, answer: *mut odfilter_answer) -> u32;
+    pub fn odfilter_flat_new_sql(
+        filter: *const odfilter_handle, form: u32, how: *const c_char, how_length: usize,
+        conditions: *mut *mut odfilter_handle, answer: *mut odfilter_answer) -> u32;
+    pub fn odfilter_flat_sql_text(
+        conditions: *const odfilter_handle, which: u32, text: *mut c_char, text_length: usize,
+        answer: *mut odfilter_answer) -> u32;
+    pub fn odfilter_flat_sql_value(
+        conditions: *const odfilter_handle, which: u32, index: u32, text: *mut c_char, text_length: usize,
+        answer: *mut odfilter_answer) -> u32;
     pub fn odfilter_flat_set_moment(judge: *mut odfilter_handle, moment: *const c_char, moment_length: usize) -> u32;
     pub fn odfilter_flat_judge(
         filter: *const odfilter_handle, judge: *mut odfilter_handle, row: *const c_char, row_length: usize,

@@ -110,3 +110,18 @@ pub(crate) fn message_of(
     })
     .unwrap_or_default()
 }
+
+/// The object of a fault of a text that the program prints by `--format json`; empty where there is none.
+pub(crate) fn json_of(
+    of_type: Option<&Handle>,
+    status: u32,
+    about: &[u8],
+    fault: &c::odfilter_answer,
+) -> String {
+    let of_type = of_type.map_or(ptr::null(), Handle::at);
+    // SAFETY: the handle is NULL or a type, and all else is of this call.
+    text(|to, answer| unsafe {
+        c::odfilter_fault_json(of_type, status, bytes(about), to, fault, answer)
+    })
+    .unwrap_or_default()
+}

@@ -70,6 +70,8 @@ pub struct Refusal {
     pub piece: Range<usize>,
     /// Of `check_url`: the bytes of the query that the option's value takes.
     pub value: Range<usize>,
+    /// The object that the program prints by `--format json`, with the edits that the type suggests.
+    pub json: String,
 }
 
 impl Refusal {
@@ -92,6 +94,8 @@ pub struct QueryRefusal {
     pub number: u64,
     /// A sentence for people.
     pub message: String,
+    /// The object that the program prints by `--format json`.
+    pub json: String,
 }
 
 /// Why a document is no schema.
@@ -103,6 +107,8 @@ pub struct SchemaFault {
     pub names: Vec<String>,
     /// A sentence for people.
     pub message: String,
+    /// The object that the program prints by `--format json`.
+    pub json: String,
 }
 
 /// Why a row has no verdict.
@@ -118,6 +124,8 @@ pub struct RowFault {
     pub kept: Vec<u8>,
     /// A sentence for people.
     pub message: String,
+    /// The object that the program prints by `--format json`, without the line; empty where a row costs too much.
+    pub json: String,
 }
 
 /// The error of a status that says everything.

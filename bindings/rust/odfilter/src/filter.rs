@@ -1,6 +1,7 @@
 //! Schemas, entity types and filters.
-use crate::calls::{buffer, bytes, code_of, message_of, require_fit, text, Handle};
+use crate::calls::{buffer, bytes, code_of, json_of, message_of, require_fit, text, Handle};
 use crate::error::{plain, Error, Kind, QueryRefusal, Refusal, Result, SchemaFault};
+use crate::types::{declared_by, DeclaredProperty, DeclaredType};
 use odfilter_sys as c;
 use std::ops::Range;
 use std::sync::Arc;
@@ -49,6 +50,11 @@ impl Schema {
             Err(status) => Err(plain(status)),
         }
     }
+
+    /// The entity and complex types that it declares, in the byte order of their names.
+    pub fn types(&self) -> Result<Vec<DeclaredType>> {
+        declared_by(&self.0)
+    }
 }
 
 fn schema_fault(names: &[u8], answer: &c::odfilter_answer) -> Error {
@@ -61,6 +67,7 @@ fn schema_fault(names: &[u8], answer: &c::odfilter_answer) -> Error {
         code: code_of(status, answer),
         names: [first, second].iter().take(count).map(named).collect(),
         message: message_of(None, status, names, answer),
+        json: json_of(None, status, names, answer),
     }))
 }
 
@@ -69,6 +76,11 @@ fn schema_fault(names: &[u8], answer: &c::odfilter_answer) -> Error {
 pub struct EntityType(Arc<Handle>);
 
 impl EntityType {
+    /// The properties of the type, those of its base first.
+    pub fn properties(&self) -> Result<Vec<DeclaredProperty>> {
+        Ok(declared_by(&self.0)?.pop().map(|it| it.properties).unwrap_or_default())
+    }
+
     /// Checks the text of a filter.
     pub fn check(&self, text: &str) -> Result<Filter> {
         let mut answer = c::odfilter_answer::default();
@@ -127,14 +139,18 @@ impl EntityType {
             c::ODFILTER_QUERY_FAULT => {
                 let code = code_of(status, answer);
                 let message = message_of(None, status, given, answer);
-                return Err(Error::Query(QueryRefusal { code, number: answer.number, message }));
+                let json = json_of(None, status, given, answer);
+                let number = answer.number;
+                return Err(Error::Query(QueryRefusal { code, number, message, json }));
             }
             other => return Err(plain(other)),
         };
         let (text, span) = (text(), answer.start..answer.stop);
         let code = code_of(status, answer);
         let message = message_of(Some(&self.0), status, text.as_bytes(), answer);
-        Err(Error::Refused(Box::new(Refusal { kind, code, span, text, message, piece, value })))
+        let json = json_of(Some(&self.0), status, text.as_bytes(), answer);
+        let refusal = Refusal { kind, code, span, text, message, piece, value, json };
+        Err(Error::Refused(Box::new(refusal)))
     }
 }
 

@@ -1,5 +1,5 @@
 //! Judges, which judge rows by a filter.
-use crate::calls::{buffer, bytes, code_of, message_of, text, Handle};
+use crate::calls::{buffer, bytes, code_of, json_of, message_of, text, Handle};
 use crate::error::{plain, Error, Result, RowFault};
 use crate::filter::Filter;
 use odfilter_sys as c;
@@ -118,10 +118,14 @@ impl Judge {
         let code = code_of(status, answer);
         if status == c::ODFILTER_TOO_COSTLY {
             let message = "the filter costs more on the row than the judge's bound".to_owned();
-            return Error::TooCostly(Box::new(RowFault { code, path, line, kept, message }));
+            let json = String::new();
+            return Error::TooCostly(Box::new(RowFault { code, path, line, kept, message, json }));
         }
         let message = message_of(None, status, path.as_bytes(), answer);
-        Error::Row(Box::new(RowFault { code, path, line, kept, message }))
+        // the line may be counted from elsewhere, so the object has none
+        let alone = c::odfilter_answer { number: 0, ..*answer };
+        let json = json_of(None, status, path.as_bytes(), &alone);
+        Error::Row(Box::new(RowFault { code, path, line, kept, message, json }))
     }
 
     /// The path of the last row's fault.

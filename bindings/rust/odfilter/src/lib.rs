@@ -36,11 +36,13 @@ mod error;
 mod filter;
 mod judge;
 mod sql;
+mod types;
 
 pub use error::{Error, Kind, QueryRefusal, Refusal, Result, RowFault, SchemaFault};
 pub use filter::{EntityType, Filter, Schema};
 pub use judge::{Judge, Keep, Kept};
 pub use sql::{Conditions, Dialect, Parameter, Rows, Statement};
+pub use types::{DeclaredProperty, DeclaredType};
 
 /// The version of the C library.
 pub fn version() -> Result<String> {

@@ -1,10 +1,8 @@
-//! A filter as conditions of SQL, and the JSON in which the library writes them.
-use crate::calls::{bytes, text};
-use crate::error::{Error, Result};
+//! A filter as conditions of SQL.
+use crate::calls::{bytes, text, Handle};
+use crate::error::{plain, Error, Result};
 use crate::filter::Filter;
 use odfilter_sys as c;
-use std::iter::Peekable;
-use std::str::Chars;
 
 /// An engine that conditions of SQL are written for.
 #[derive(Debug, Clone, Copy, PartialEq, Eq)]
@@ -63,12 +61,50 @@ impl Filter {
             (Dialect::Sqlite, Rows::Json(_)) => c::ODFILTER_SQLITE_JSON,
         };
         let how = how(rows, now.unwrap_or_default())?;
+        let mut answer = c::odfilter_answer::default();
         // SAFETY: the handle is a filter, and all else is of this call.
-        let json = text(|to, answer| unsafe {
-            c::odfilter_sql(self.handle.at(), form, bytes(how.as_bytes()), to, answer)
-        })?;
-        Ok(Reader(json.chars().peekable()).conditions())
+        let made = Handle::made(|to| unsafe {
+            c::odfilter_new_sql(self.handle.at(), form, bytes(how.as_bytes()), to, &mut answer)
+        });
+        let made = made.map_err(plain)?;
+        Ok(Conditions {
+            outcome: statement(&made, c::ODFILTER_SQL_OUTCOME)?,
+            keep: statement(&made, c::ODFILTER_SQL_KEEP)?,
+            fault: match statement(&made, c::ODFILTER_SQL_FAULT) {
+                Err(Error::Status(c::ODFILTER_UNKNOWN_NUMBER)) => None,
+                found => Some(found?),
+            },
+        })
     }
+}
+
+/// A statement of conditions, with the values of its parameters.
+fn statement(conditions: &Handle, which: u32) -> Result<Statement> {
+    let mut count = 0;
+    let text = text(|to, answer| {
+        // SAFETY: the handle is conditions, and all else is of this call.
+        let status = unsafe { c::odfilter_sql_text(conditions.at(), which, to, answer) };
+        // SAFETY: the answer is that of this call.
+        count = unsafe { (*answer).number } as u32;
+        status
+    })?;
+    let parameters =
+        (0..count).map(|index| value(conditions, which, index)).collect::<Result<_>>()?;
+    Ok(Statement { text, parameters })
+}
+
+/// The value of a parameter.
+fn value(conditions: &Handle, which: u32, index: u32) -> Result<Parameter> {
+    let mut whole = None;
+    let text = text(|to, answer| {
+        // SAFETY: the handle is conditions, and all else is of this call.
+        let status = unsafe { c::odfilter_sql_value(conditions.at(), which, index, to, answer) };
+        // SAFETY: the answer is that of this call.
+        let reported = unsafe { &*answer };
+        whole = (reported.verdict == c::ODFILTER_VALUE_WHOLE).then_some(reported.number as i64);
+        status
+    })?;
+    Ok(whole.map_or(Parameter::Text(text), Parameter::Int))
 }
 
 /// The lines that `odfilter_sql` takes.
@@ -89,95 +125,4 @@ fn how(rows: Rows<'_>, now: &str) -> Result<String> {
         }
     }
     Ok(lines)
-}
-
-/// Reads conditions as the library writes them: JSON of objects, arrays, strings and whole numbers, without spaces.
-struct Reader<'a>(Peekable<Chars<'a>>);
-
-impl Reader<'_> {
-    /// Steps over a character if it is that one.
-    fn is_taken(&mut self, wanted: char) -> bool {
-        self.0.next_if_eq(&wanted).is_some()
-    }
-
-    fn conditions(&mut self) -> Conditions {
-        let mut found = Conditions::default();
-        self.is_taken('{');
-        while !self.is_taken('}') {
-            let name = self.string();
-            self.is_taken(':');
-            let statement = self.statement();
-            match name.as_str() {
-                "keep" => found.keep = statement,
-                "fault" => found.fault = Some(statement),
-                _ => found.outcome = statement,
-            }
-            self.is_taken(',');
-        }
-        found
-    }
-
-    fn statement(&mut self) -> Statement {
-        let mut found = Statement::default();
-        self.is_taken('{');
-        while !self.is_taken('}') {
-            let name = self.string();
-            self.is_taken(':');
-            if name == "text" {
-                found.text = self.string();
-            } else {
-                found.parameters = self.parameters();
-            }
-            self.is_taken(',');
-        }
-        found
-    }
-
-    fn parameters(&mut self) -> Vec<Parameter> {
-        let mut found = Vec::new();
-        self.is_taken('[');
-        while !self.is_taken(']') {
-            let is_text = self.0.peek() == Some(&'"');
-            found.push(if is_text { Parameter::Text(self.string()) } else { self.number() });
-            self.is_taken(',');
-        }
-        found
-    }
-
-    fn number(&mut self) -> Parameter {
-        let mut digits = String::new();
-        while let Some(it) = self.0.next_if(|it| it.is_ascii_digit() || *it == '-') {
-            digits.push(it);
-        }
-        Parameter::Int(digits.parse().expect("the library writes numbers of 64 bits"))
-    }
-
-    fn string(&mut self) -> String {
-        let mut text = String::new();
-        self.is_taken('"');
-        while let Some(it) = self.0.next() {
-            match it {
-                '"' => break,
-                '\\' => text.extend(self.escaped()),
-                other => text.push(other),
-            }
-        }
-        text
-    }
-
-    /// What an escape stands for. The library escapes control characters alone by their numbers.
-    fn escaped(&mut self) -> Option<char> {
-        match self.0.next()? {
-            'b' => Some('\u{8}'),
-            'f' => Some('\u{c}'),
-            'n' => Some('\n'),
-            'r' => Some('\r'),
-            't' => Some('\t'),
-            'u' => {
-                let digits: String = self.0.by_ref().take(4).collect();
-                u32::from_str_radix(&digits, 16).ok().and_then(char::from_u32)
-            }
-            other => Some(other),
-        }
-    }
 }

@@ -2,7 +2,13 @@
 mod common;
 
 use common::{item, row, DOCUMENT};
-use odfilter::{Dialect, Error, Kind, Parameter, Rows, Schema};
+use odfilter::{DeclaredProperty, DeclaredType, Dialect, Error, Kind, Parameter, Rows, Schema};
+
+/// Types with each kind of property.
+const TYPES: &str = r#"{"$Version":"4.01","Mini":{"Base":{"$Kind":"EntityType","ID":{"$Type":"Edm.Int64"}},
+"Part":{"$Kind":"ComplexType"},"Item":{"$Kind":"EntityType","$BaseType":"Mini.Base",
+"Tags":{"$Collection":true,"$Nullable":true},"Weight":{"$Type":"Edm.Double","$Nullable":true},
+"Parts":{"$Kind":"NavigationProperty","$Type":"Mini.Base","$Collection":true}}}}"#;
 
 #[test]
 fn a_filter() {
@@ -45,6 +51,7 @@ fn refusals() {
     assert_eq!((refused.kind, refused.code.as_str()), (Kind::Type, "UnknownProperty"));
     assert_eq!(&refused.text[refused.span.clone()], "Foo");
     assert!(refused.message.ends_with('.'));
+    is_object_of(&refused.json, "typing", &refused.code);
     assert_eq!(refused.pointed(), format!("{text}\n                 ^^^"));
     let Err(Error::Refused(empty)) = item().check("") else { panic!("not refused") };
     assert_eq!(empty.pointed(), "\n^");
@@ -58,16 +65,57 @@ fn refusals() {
     assert_eq!(asked.code, "BadCharacter");
 }
 
+/// Whether it is the object of a fault of that class and name.
+fn is_object_of(json: &str, class: &str, name: &str) {
+    let is_of = json.starts_with(&format!("{{\"class\":\"{class}\",\"code\":"));
+    assert!(is_of && json.contains(&format!("\"name\":\"{name}\"")) && json.ends_with('}'));
+}
+
+#[test]
+fn declared_types() {
+    let named = |name: &str, type_name: Option<&str>| DeclaredProperty {
+        name: name.to_owned(),
+        type_name: type_name.map(str::to_owned),
+        collection: false,
+        nullable: false,
+        navigation: false,
+    };
+    let parts = named("Parts", Some("Mini.Base"));
+    let properties = [
+        named("ID", Some("Edm.Int64")),
+        DeclaredProperty { collection: true, navigation: true, ..parts },
+        DeclaredProperty { collection: true, nullable: true, ..named("Tags", Some("Edm.String")) },
+        DeclaredProperty { nullable: true, ..named("Weight", None) },
+    ];
+    let declared = |name: &str, kind: &str, properties: &[DeclaredProperty]| DeclaredType {
+        name: name.to_owned(),
+        kind: kind.to_owned(),
+        properties: properties.to_vec(),
+    };
+    let wanted = [
+        declared("Mini.Base", "entity", &properties[..1]),
+        declared("Mini.Item", "entity", &properties),
+        declared("Mini.Part", "complex", &[]),
+    ];
+    let schema = Schema::read(TYPES).unwrap();
+    assert_eq!(schema.types().unwrap(), wanted);
+    let item = schema.entity_type("Mini.Item").unwrap();
+    assert_eq!(item.properties().unwrap(), properties);
+    assert!(Schema::read(r#"{"$Version":"4.01"}"#).unwrap().types().unwrap().is_empty());
+}
+
 #[test]
 fn other_errors() {
     let Err(Error::Query(query)) = item().check_url("a&x=1;$filter=Foo") else { panic!() };
     assert_eq!((query.code.as_str(), query.number), ("Disguised", 1));
+    is_object_of(&query.json, "query", "Disguised");
     let name = "A".repeat(999);
     let document =
         format!(r#"{{"$Version":"4.01","N":{{"{name}":{{"$Kind":"EntityType","P":5}}}}}}"#);
     let Err(Error::Schema(schema)) = Schema::read(document) else { panic!() };
     assert_eq!(schema.code, "BadProperty");
     assert_eq!(schema.names, [format!("N.{name}"), "P".to_owned()]);
+    is_object_of(&schema.json, "schema", "BadProperty");
     let unknown = Schema::read(DOCUMENT).unwrap().entity_type("Mini.No");
     assert!(matches!(unknown, Err(Error::UnknownType(message)) if message.contains("Mini.No")));
     let mut judge = item().check("Active").unwrap().judge().unwrap();
@@ -75,6 +123,7 @@ fn other_errors() {
         panic!()
     };
     assert_eq!((fault.code.as_str(), fault.path.as_str(), fault.line), ("WrongKind", "ID", 1));
+    is_object_of(&fault.json, "row", "WrongKind");
     let needs = item().check("Changed lt now()").unwrap();
     let text = row(1, "null", true);
     assert!(matches!(needs.judge().unwrap().verdict(&text), Err(Error::MomentNeeded)));
@@ -105,6 +154,15 @@ fn sql() {
     let escaped = item().check("Name eq '\t\n\u{1}é'").unwrap();
     let escaped = escaped.sql(Dialect::Sqlite, columns, None).unwrap();
     assert_eq!(escaped.keep.parameters, [Parameter::Text("\t\n\u{1}é".to_owned())]);
+    let typed =
+        item().check("Name eq '7' and ID gt -7 and Changed ge 1970-01-01T00:00:00Z").unwrap();
+    let text = |it: &str| Parameter::Text(it.to_owned());
+    for (dialect, instant) in
+        [(Dialect::Sqlite, "062135769600000000000"), (Dialect::PostgreSql, "0")]
+    {
+        let found = typed.sql(dialect, columns, None).unwrap().keep.parameters;
+        assert_eq!(found, [text("7"), Parameter::Int(-7), text(instant)]);
+    }
     let active = item().check("Active").unwrap();
     for name in ["No", "ID="] {
         let unknown = active.sql(Dialect::Sqlite, Rows::Columns(&[(name, "x")]), None);

@@ -107,6 +107,11 @@ final class Calls {
         return it.made(it.read(status, text, answer), made);
     }
 
+    static int types(long given, byte[] text, Answer answer) {
+        Scratch it = SCRATCH.get();
+        return it.read(Library.odfilter_types(at(given), it.buffer(text), it.answer), text, answer);
+    }
+
     static int canonical(long filter, byte[] text, Answer answer) {
         Scratch it = SCRATCH.get();
         return it.read(Library.odfilter_canonical(at(filter), it.buffer(text), it.answer), text, answer);
@@ -137,9 +142,22 @@ final class Calls {
         return it.read(Library.odfilter_lambda_depth(at(filter), it.answer), Text.NONE, answer);
     }
 
-    static int sql(long filter, int form, byte[] how, byte[] text, Answer answer) {
+    static int newSql(long filter, int form, byte[] how, long[] made, Answer answer) {
         Scratch it = SCRATCH.get();
-        int status = Library.odfilter_sql(at(filter), form, it.borrowed(how), it.buffer(text), it.answer);
+        int status = Library.odfilter_new_sql(at(filter), form, it.borrowed(how), it.handle, it.answer);
+        Library.read(it.answer, answer);
+        return it.made(status, made);
+    }
+
+    static int sqlText(long conditions, int which, byte[] text, Answer answer) {
+        Scratch it = SCRATCH.get();
+        int status = Library.odfilter_sql_text(at(conditions), which, it.buffer(text), it.answer);
+        return it.read(status, text, answer);
+    }
+
+    static int sqlValue(long conditions, int which, int index, byte[] text, Answer answer) {
+        Scratch it = SCRATCH.get();
+        int status = Library.odfilter_sql_value(at(conditions), which, index, it.buffer(text), it.answer);
         return it.read(status, text, answer);
     }
 
@@ -202,5 +220,14 @@ final class Calls {
                 Library.odfilter_fault_text(
                         at(type), status, it.borrowed(about), it.buffer(text), it.fault, it.answer),
                 text, answer);
+    }
+
+    static int faultJson(long type, int status, byte[] about, byte[] json, Answer fault, Answer answer) {
+        Scratch it = SCRATCH.get();
+        Library.write(fault, it.fault);
+        return it.read(
+                Library.odfilter_fault_json(
+                        at(type), status, it.borrowed(about), it.buffer(json), it.fault, it.answer),
+                json, answer);
     }
 }

@@ -1,6 +1,7 @@
 package org.odfilter;
 
 import java.util.Arrays;
+import java.util.List;
 import java.util.Optional;
 import java.util.function.Supplier;
 
@@ -10,6 +11,11 @@ public final class EntityType implements AutoCloseable {
 
     EntityType(long made) {
         handle = new Handle(this, made, null);
+    }
+
+    /** The properties of the type, those of its base first. */
+    public List<DeclaredProperty> properties() {
+        return handle.use(DeclaredType::of).get(0).properties();
     }
 
     /** Checks the text of a filter, or throws a FilterRefusedException. */
@@ -65,8 +71,7 @@ public final class EntityType implements AutoCloseable {
             case Numbers.TEXT_FAULT:
             case Numbers.SYNTAX_FAULT:
             case Numbers.TYPE_FAULT:
-                String message = Text.messageOf(type, status, text.get(), answer);
-                throw new FilterRefusedException(status, text.get(), answer, message);
+                throw new FilterRefusedException(status, text.get(), answer, type);
             case Numbers.QUERY_FAULT:
                 throw new QueryRefusedException(given, answer);
             default:

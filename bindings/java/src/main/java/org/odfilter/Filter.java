@@ -123,8 +123,16 @@ public final class Filter implements AutoCloseable {
             throw ODataException.of(Numbers.NOT_A_MOMENT);
         }
         byte[] how = Text.utf8((now == null ? "" : now) + "\n" + lines);
-        return new ConditionsReader(
-                handle.use(at -> Text.of(Text.written((buffer, it) -> Calls.sql(at, form, how, buffer, it))))).read();
+        long[] made = new long[1];
+        int status = handle.status(at -> Calls.newSql(at, form, how, made, new Answer()));
+        if (status != Numbers.OK) {
+            throw ODataException.of(status);
+        }
+        try {
+            return new Conditions(made[0]);
+        } finally {
+            Calls.free(made[0]);
+        }
     }
 
     @Override

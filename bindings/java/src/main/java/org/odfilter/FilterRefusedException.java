@@ -15,8 +15,9 @@ public final class FilterRefusedException extends ODataException {
         TEXT, SYNTAX, TYPE
     }
 
-    FilterRefusedException(int status, byte[] text, Answer answer, String message) {
-        super(Text.codeOf(status, answer), message);
+    FilterRefusedException(int status, byte[] text, Answer answer, long type) {
+        super(Text.codeOf(status, answer), Text.messageOf(type, status, text, answer),
+                Text.jsonOf(type, status, text, answer));
         kind = Kind.values()[status - Numbers.TEXT_FAULT];
         this.text = Text.of(text);
         span = new Span(Text.charsIn(text, answer.start), Text.charsIn(text, answer.stop));

@@ -132,6 +132,27 @@ final class Library {
         return odfilter_flat_sql(filter, form, how.at, how.length, text.at, text.length, answer);
     }
 
+    static native int odfilter_flat_new_sql(
+            Pointer filter, int form, Pointer how, long howLength, Pointer conditions, Pointer answer);
+
+    static int odfilter_new_sql(Pointer filter, int form, Bytes how, Pointer conditions, Pointer answer) {
+        return odfilter_flat_new_sql(filter, form, how.at, how.length, conditions, answer);
+    }
+
+    static native int odfilter_flat_sql_text(
+            Pointer conditions, int which, Pointer text, long textLength, Pointer answer);
+
+    static int odfilter_sql_text(Pointer conditions, int which, Bytes text, Pointer answer) {
+        return odfilter_flat_sql_text(conditions, which, text.at, text.length, answer);
+    }
+
+    static native int odfilter_flat_sql_value(
+            Pointer conditions, int which, int index, Pointer text, long textLength, Pointer answer);
+
+    static int odfilter_sql_value(Pointer conditions, int which, int index, Bytes text, Pointer answer) {
+        return odfilter_flat_sql_value(conditions, which, index, text.at, text.length, answer);
+    }
+
     static native int odfilter_new_judge(Pointer judge);
 
     static native int odfilter_new_judge_of(Pointer filter, Pointer judge);

@@ -33,6 +33,12 @@ final class Numbers {
     static final int FORM_POSTGRESQL_JSON = 1;
     static final int FORM_SQLITE_COLUMNS = 2;
     static final int FORM_SQLITE_JSON = 3;
+    static final int STATEMENT_OUTCOME = 0;
+    static final int STATEMENT_KEEP = 1;
+    static final int STATEMENT_FAULT = 2;
+    static final int VALUE_WHOLE = 0;
+    static final int VALUE_TEXT = 1;
+    static final int VALUE_INSTANT = 2;
 
     /** How many names each fault of a schema carries, by its number. */
     static final int[] SCHEMA_NAMES = {0, 0, 0, 0, 1, 2, 1, 1, 2, 2, 0};

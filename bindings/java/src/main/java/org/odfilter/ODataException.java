@@ -8,15 +8,29 @@ package org.odfilter;
 public class ODataException extends RuntimeException {
     private static final long serialVersionUID = 1L;
     private final String code;
+    private final String json;
 
     ODataException(String code, String message) {
+        this(code, message, "");
+    }
+
+    ODataException(String code, String message, String json) {
         super(message);
         this.code = code;
+        this.json = json;
     }
 
     /** The name of the fault. */
     public final String code() {
         return code;
+    }
+
+    /**
+     * The object that the program prints of it by --format json, with the edits that the type suggests; empty where
+     * there is none.
+     */
+    public final String json() {
+        return json;
     }
 
     /** The error of a status that says everything. */

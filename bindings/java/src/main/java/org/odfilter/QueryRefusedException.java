@@ -6,7 +6,8 @@ public final class QueryRefusedException extends ODataException {
     private final long number;
 
     QueryRefusedException(byte[] query, Answer answer) {
-        super(Text.codeOf(Numbers.QUERY_FAULT, answer), Text.messageOf(0, Numbers.QUERY_FAULT, query, answer));
+        super(Text.codeOf(Numbers.QUERY_FAULT, answer), Text.messageOf(0, Numbers.QUERY_FAULT, query, answer),
+                Text.jsonOf(0, Numbers.QUERY_FAULT, query, answer));
         number = answer.number;
     }
 

@@ -1,6 +1,9 @@
 package org.odfilter;
 
-/** A row has no verdict; one that costs more than the judge's bound has the code TooCostly. */
+/**
+ * A row has no verdict; one that costs more than the judge's bound has the code TooCostly. The line of its object is
+ * null.
+ */
 public final class RowException extends ODataException {
     private static final long serialVersionUID = 1L;
     private final String path;
@@ -8,7 +11,7 @@ public final class RowException extends ODataException {
     private final byte[] kept;
 
     RowException(int status, Answer answer, byte[] path, long line, byte[] kept) {
-        super(Text.codeOf(status, answer), sentence(status, answer, path));
+        super(Text.codeOf(status, answer), sentence(status, answer, path), json(status, answer, path));
         this.path = Text.of(path);
         this.line = line;
         this.kept = kept;
@@ -17,6 +20,14 @@ public final class RowException extends ODataException {
     private static String sentence(int status, Answer answer, byte[] path) {
         return status == Numbers.TOO_COSTLY ? "the filter costs more on the row than the judge's bound"
                 : Text.messageOf(0, status, path, answer);
+    }
+
+    /** Without the line, which may be counted from elsewhere. */
+    private static String json(int status, Answer answer, byte[] path) {
+        Answer alone = new Answer();
+        alone.fault = answer.fault;
+        alone.length = answer.length;
+        return status == Numbers.TOO_COSTLY ? "" : Text.jsonOf(0, status, path, alone);
     }
 
     /** The path from the row to the value at fault, as Parts/0/Qty; it may be empty. */

@@ -1,6 +1,7 @@
 package org.odfilter;
 
 import java.util.Arrays;
+import java.util.List;
 
 /**
  * A schema, read from a CSDL JSON document.
@@ -53,6 +54,11 @@ public final class Schema implements AutoCloseable {
             throw ODataException.of(status);
         }
         return new EntityType(made[0]);
+    }
+
+    /** The entity and complex types that it declares, in the byte order of their names. */
+    public List<DeclaredType> types() {
+        return handle.use(DeclaredType::of);
     }
 
     /** The version of the C library. */

@@ -10,7 +10,8 @@ public final class SchemaException extends ODataException {
     private final ArrayList<String> names;
 
     SchemaException(byte[] names, Answer answer) {
-        super(Text.codeOf(Numbers.SCHEMA_FAULT, answer), Text.messageOf(0, Numbers.SCHEMA_FAULT, names, answer));
+        super(Text.codeOf(Numbers.SCHEMA_FAULT, answer), Text.messageOf(0, Numbers.SCHEMA_FAULT, names, answer),
+                Text.jsonOf(0, Numbers.SCHEMA_FAULT, names, answer));
         int first = (int) answer.first;
         List<String> both = List.of(
                 Text.of(Arrays.copyOf(names, first)), Text.of(Arrays.copyOfRange(names, first, names.length)));

@@ -65,6 +65,11 @@ final class Text {
         return of(written((text, answer) -> Calls.faultText(type, status, about, text, fault, answer)));
     }
 
+    /** The object of a fault of a text, for programs; the type is the handle of one, or 0. */
+    static String jsonOf(long type, int status, byte[] about, Answer fault) {
+        return of(written((text, answer) -> Calls.faultJson(type, status, about, text, fault, answer)));
+    }
+
     /** The decoded text of the option filter or $filter of a query that has one. */
     static byte[] filterText(byte[] query) {
         for (String option : new String(query, StandardCharsets.ISO_8859_1).split("&", -1)) {

@@ -6,7 +6,8 @@ public final class UnknownTypeException extends ODataException {
     private final String typeName;
 
     UnknownTypeException(String typeName) {
-        super("UnknownType", Text.messageOf(0, Numbers.UNKNOWN_TYPE, Text.utf8(typeName), new Answer()));
+        super("UnknownType", Text.messageOf(0, Numbers.UNKNOWN_TYPE, Text.utf8(typeName), new Answer()),
+                Text.jsonOf(0, Numbers.UNKNOWN_TYPE, Text.utf8(typeName), new Answer()));
         this.typeName = typeName;
     }
 

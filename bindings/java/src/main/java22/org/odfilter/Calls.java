@@ -139,6 +139,15 @@ final class Calls {
         }
     }
 
+    static int types(long given, byte[] text, Answer answer) {
+        Scratch it = SCRATCH.get();
+        try {
+            return it.read((int) Library.TYPES.invokeExact(at(given), it.buffer(text), it.answer), text, answer);
+        } catch (Throwable error) {
+            throw unexpected(error);
+        }
+    }
+
     static int canonical(long filter, byte[] text, Answer answer) {
         Scratch it = SCRATCH.get();
         try {
@@ -195,11 +204,32 @@ final class Calls {
         }
     }
 
-    static int sql(long filter, int form, byte[] how, byte[] text, Answer answer) {
+    static int newSql(long filter, int form, byte[] how, long[] made, Answer answer) {
         Scratch it = SCRATCH.get();
         try {
-            int status = (int) Library.SQL.invokeExact(
-                    at(filter), form, it.borrowed(how), it.buffer(text), it.answer);
+            int status = (int) Library.NEW_SQL.invokeExact(
+                    at(filter), form, it.borrowed(how), it.handle, it.answer);
+            return it.made(it.read(status, Text.NONE, answer), made);
+        } catch (Throwable error) {
+            throw unexpected(error);
+        }
+    }
+
+    static int sqlText(long conditions, int which, byte[] text, Answer answer) {
+        Scratch it = SCRATCH.get();
+        try {
+            int status = (int) Library.SQL_TEXT.invokeExact(at(conditions), which, it.buffer(text), it.answer);
+            return it.read(status, text, answer);
+        } catch (Throwable error) {
+            throw unexpected(error);
+        }
+    }
+
+    static int sqlValue(long conditions, int which, int index, byte[] text, Answer answer) {
+        Scratch it = SCRATCH.get();
+        try {
+            int status = (int) Library.SQL_VALUE.invokeExact(
+                    at(conditions), which, index, it.buffer(text), it.answer);
             return it.read(status, text, answer);
         } catch (Throwable error) {
             throw unexpected(error);
@@ -304,6 +334,19 @@ final class Calls {
                     (int) Library.FAULT_TEXT.invokeExact(
                             at(type), status, it.borrowed(about), it.buffer(text), it.fault, it.answer),
                     text, answer);
+        } catch (Throwable error) {
+            throw unexpected(error);
+        }
+    }
+
+    static int faultJson(long type, int status, byte[] about, byte[] json, Answer fault, Answer answer) {
+        Scratch it = SCRATCH.get();
+        Library.write(fault, it.fault);
+        try {
+            return it.read(
+                    (int) Library.FAULT_JSON.invokeExact(
+                            at(type), status, it.borrowed(about), it.buffer(json), it.fault, it.answer),
+                    json, answer);
         } catch (Throwable error) {
             throw unexpected(error);
         }

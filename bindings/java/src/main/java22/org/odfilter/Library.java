@@ -34,6 +34,9 @@ final class Library {
     static final MethodHandle LAMBDA_DEPTH = call("odfilter_lambda_depth", ADDRESS, ADDRESS);
     static final MethodHandle PROPERTY_PATHS = call("odfilter_property_paths", ADDRESS, BYTES, ADDRESS);
     static final MethodHandle SQL = call("odfilter_sql", ADDRESS, JAVA_INT, BYTES, BYTES, ADDRESS);
+    static final MethodHandle NEW_SQL = call("odfilter_new_sql", ADDRESS, JAVA_INT, BYTES, ADDRESS, ADDRESS);
+    static final MethodHandle SQL_TEXT = call("odfilter_sql_text", ADDRESS, JAVA_INT, BYTES, ADDRESS);
+    static final MethodHandle SQL_VALUE = call("odfilter_sql_value", ADDRESS, JAVA_INT, JAVA_INT, BYTES, ADDRESS);
     static final MethodHandle NEW_JUDGE = call("odfilter_new_judge", ADDRESS);
     static final MethodHandle NEW_JUDGE_OF = call("odfilter_new_judge_of", ADDRESS, ADDRESS);
     static final MethodHandle SET_MOMENT = call("odfilter_set_moment", ADDRESS, BYTES);

@@ -13,6 +13,7 @@ import java.time.Instant;
 import java.util.List;
 import java.util.Map;
 import java.util.Optional;
+import java.util.function.Function;
 import java.util.stream.Collectors;
 import java.util.stream.Stream;
 
@@ -23,6 +24,7 @@ final class Tests {
 
     public static void main(String[] words) throws Exception {
         checksOfFilters();
+        checksOfTypes();
         checksOfVerdicts();
         checksOfRefusals();
         checksOfErrors();
@@ -57,6 +59,37 @@ final class Tests {
         equal("no filter in a query", item().checkQuery(""), Optional.empty());
     }
 
+    private static void checksOfTypes() {
+        Schema schema = Schema.read("{\"$Version\":\"4.01\",\"Mini\":{"
+                + "\"Base\":{\"$Kind\":\"EntityType\",\"ID\":{\"$Type\":\"Edm.Int64\"}},"
+                + "\"Part\":{\"$Kind\":\"ComplexType\"},"
+                + "\"Item\":{\"$Kind\":\"EntityType\",\"$BaseType\":\"Mini.Base\","
+                + "\"Tags\":{\"$Collection\":true,\"$Nullable\":true},"
+                + "\"Weight\":{\"$Type\":\"Edm.Double\",\"$Nullable\":true},"
+                + "\"Parts\":{\"$Kind\":\"NavigationProperty\",\"$Type\":\"Mini.Base\",\"$Collection\":true}}}}");
+        equal("types", listed(schema.types(), it -> it.kind() + " " + it.name() + " " + it.properties().size()),
+                List.of("entity Mini.Base 1", "entity Mini.Item 4", "complex Mini.Part 0"));
+        List<DeclaredProperty> properties = schema.type("Mini.Item").properties();
+        equal("properties", listed(properties, it -> it.name() + " " + it.type().orElse("none")),
+                List.of("ID Edm.Int64", "Parts Mini.Base", "Tags Edm.String", "Weight none"));
+        equal("collections", listed(properties, DeclaredProperty::isCollection), List.of(false, true, true, false));
+        equal("nullable", listed(properties, DeclaredProperty::isNullable), List.of(false, false, true, true));
+        equal("navigation", listed(properties, DeclaredProperty::isNavigation), List.of(false, true, false, false));
+        equal("no types", Schema.read("{\"$Version\":\"4.01\"}").types(), List.of());
+    }
+
+    private static <T, U> List<U> listed(List<T> all, Function<T, U> of) {
+        return all.stream().map(of).collect(Collectors.toList());
+    }
+
+    /** The object of a fault has its class, its name and its sentence. */
+    private static void object(ODataException error, String wanted) {
+        String json = error.json();
+        that(wanted, json.startsWith("{\"class\":\"" + wanted + "\",") && json.endsWith("}"), json);
+        that(error.code(), json.contains("\"name\":\"" + error.code() + "\""), json);
+        that("sentence", json.contains("\"sentence\":\"" + error.getMessage().replace("\"", "\\\"")), json);
+    }
+
     private static void checksOfVerdicts() {
         Judge judge = item().check("Active and contains(Name,'a')").judge();
         equal("true", judge.verdict(row(1, "\"cab\"", true)), Verdict.TRUE);
@@ -82,6 +115,7 @@ final class Tests {
         equal("span", text.substring(refused.span().start(), refused.span().stop()), "Foo");
         equal("bytes", refused.byteSpan(), new Span(refused.span().start() + 3, refused.span().stop() + 3));
         equal("pointed", refused.pointed(), text + "\n                 ^^^");
+        object(refused, "typing");
         equal("empty", thrown(FilterRefusedException.class, () -> item().check("")).pointed(), "\n^");
         refused = thrown(FilterRefusedException.class, () -> item().checkUrl("$top=5&$filter=Foo%20eq%201"));
         equal("in a URL", List.of(refused.piece(), refused.value()), List.of(new Span(7, 27), new Span(15, 27)));
@@ -96,6 +130,7 @@ final class Tests {
         QueryRefusedException query =
                 thrown(QueryRefusedException.class, () -> item().checkUrl("a&x=1;$filter=Foo"));
         equal("query", List.of(query.code(), query.number()), List.of("Disguised", 1L));
+        object(query, "query");
         String name = "A".repeat(999);
         SchemaException schema = thrown(SchemaException.class, () -> Schema.read(
                 "{\"$Version\":\"4.01\",\"N\":{\"" + name + "\":{\"$Kind\":\"EntityType\",\"P\":5}}}"));
@@ -104,10 +139,13 @@ final class Tests {
         UnknownTypeException unknown =
                 thrown(UnknownTypeException.class, () -> Schema.read(DOCUMENT).type("Mini.No"));
         equal("type", unknown.typeName(), "Mini.No");
+        object(unknown, "unknown_type");
+        object(schema, "schema");
         String text = row(7, "null", true);
         RowException fault = thrown(
                 RowException.class, () -> item().check("Active").judge().verdict(text.replace("7", "\"7\"")));
         equal("row", List.of(fault.code(), fault.path(), fault.line()), List.of("WrongKind", "ID", 1L));
+        object(fault, "row");
         Filter needs = item().check("Changed lt now()");
         code("MomentNeeded", () -> needs.judge().verdict(text));
         code("MomentNeeded", () -> needs.sql(Dialect.SQLITE, Map.of(), null));
@@ -145,6 +183,11 @@ final class Tests {
         that("over JSON", divided.outcome().text().contains("t.\"doc\""), divided.outcome().text());
         Conditions escaped = item().check("Name eq '\t\n\u0001\u00e9'").sql(Dialect.SQLITE, Map.of(), null);
         equal("escapes", escaped.keep().parameters(), List.of("\t\n\u0001\u00e9"));
+        Filter typed = item().check("Name eq '7' and ID gt -7 and Changed ge 1970-01-01T00:00:00Z");
+        equal("kinds", typed.sql(Dialect.SQLITE, Map.of(), null).keep().parameters(),
+                List.of("7", -7L, "062135769600000000000"));
+        equal("in PostgreSQL", typed.sql(Dialect.POSTGRESQL, Map.of(), null).keep().parameters(),
+                List.of("7", -7L, "0"));
     }
 
     private static void checksOfLines() {
