@@ -38,9 +38,8 @@ def page_of(name):
     return f"{TOP}/bindings/{name}/README.md"
 
 
-def has_library(room, path, kit, name):
+def has_library(room, path, wanted):
     """A package has the library as it was built."""
-    wanted = f"{kit}/lib/{name}"
     yield f"{os.path.relpath(path, room)} is the library", bytes_of(path) == bytes_of(wanted), os.path.getsize(path)
 
 
@@ -85,7 +84,7 @@ def of_go(room, kit, package):
     done = run(["go", "get", f"{MODULE}@{version}"], cwd=f"{room}/program", more=more)
     yield "go get takes it from a proxy", done[0] == 0, done
     installed = f"{room}/go-path/pkg/mod/{head}"
-    yield from has_library(room, f"{installed}/lib/linux_amd64/libodfilter.a", kit, "libodfilter.a")
+    yield from has_library(room, f"{installed}/lib/linux_amd64/libodfilter.a", f"{kit}/lib/libodfilter.a")
     yield from stands_alone(room, f"{installed}/README.md")
     words, to = ["go", "run", "."], f"{room}/program"
     yield from prints_page(to, page_of("go"), "go", f"{to}/main.go", words, more=more)
@@ -101,7 +100,7 @@ def of_rust(room, kit, *crates):
         written(f"{room}/crates/{folder}/.cargo-checksum.json", json.dumps(sums))
     yield from stands_alone(room, *glob.glob(f"{room}/crates/odfilter-[0-9]*/README.md"))
     archive, = glob.glob(f"{room}/crates/odfilter-sys-*/lib/libodfilter.a")
-    yield from has_library(room, archive, kit, "libodfilter.a")
+    yield from has_library(room, archive, f"{kit}/lib/libodfilter.a")
     written(f"{room}/Cargo.toml", CRATE)
     written(f"{room}/.cargo/config.toml", SOURCES)
     more = {"CARGO_TARGET_DIR": f"{room}/target", "CARGO_NET_OFFLINE": "true"}
@@ -112,7 +111,7 @@ def of_rust(room, kit, *crates):
 def of_java(room, kit, jar):
     with zipfile.ZipFile(jar) as file:
         file.extract("native/linux-x86-64/libodfilter.so", room)
-    yield from has_library(room, f"{room}/native/linux-x86-64/libodfilter.so", kit, "libodfilter.so")
+    yield from has_library(room, f"{room}/native/linux-x86-64/libodfilter.so", f"{kit}/lib/libodfilter.so")
     words = [*UNNAMED, "java", "-cp", f"{jar}:{JNA}", "Page.java"]
     yield from prints_page(room, page_of("java"), "java", f"{room}/Page.java", words)
 
@@ -125,12 +124,19 @@ def of_csharp(room, kit, package):
     yield "what NuGet reads first is there", wanted <= {*names}, names
     yield from stands_alone(room, f"{room}/README.md")
     native = f"{room}/runtimes/linux-x64/native"
-    yield from has_library(room, f"{native}/libodfilter.so", kit, "libodfilter.so")
+    yield from has_library(room, f"{native}/libodfilter.so", f"{kit}/lib/libodfilter.so")
+    for platform, variable, name in OTHER_PLATFORMS:
+        at, wanted = f"{room}/runtimes/{platform}/native", f"{os.environ[variable]}/{name}"
+        yield from has_library(room, f"{at}/{os.path.basename(name)}", wanted)
     shutil.copy(f"{room}/lib/netstandard2.0/Odfilter.dll", room)
     words = ["bash", "-c", "mcs -r:Odfilter.dll -out:Page.exe Page.cs && exec mono Page.exe"]
     more = {"LD_LIBRARY_PATH": native}
     yield from prints_page(room, page_of("csharp"), "csharp", f"{room}/Page.cs", words, more=more)
 
+
+# what NuGet calls other platforms, and where the library for each is
+OTHER_PLATFORMS = [("linux-arm64", "ODFILTER_ARM64", "lib/libodfilter.so")]
+OTHER_PLATFORMS += [("win-x64", "ODFILTER_WINDOWS", "bin/odfilter.dll")]
 
 # of each language what its script leaves, and what tries that
 PACKAGES = {

@@ -10,20 +10,25 @@ import re
 import subprocess
 import tarfile
 import uuid
+import zipfile
 
 from built_library import MODULE, TOP
 
-__all__ = ["BILL", "PAGES", "made", "made_for_arm64"]
+__all__ = ["BILL", "PAGES", "made", "made_for_arm64", "made_for_windows"]
 PAGES = "share/doc/odfilter"
 BILL = f"{PAGES}/odfilter.spdx.json"
 TOP_PAGES = ["README.md", "CHANGELOG.md", "SECURITY.md"]
 UNKNOWN = {"licenseConcluded": "NOASSERTION", "copyrightText": "NOASSERTION"}
 
 
-def files_of_library(kit):
+# what bindings/c/build leaves beside the header, on Linux and for Windows
+LIBRARY = ("lib/libodfilter.a", "lib/libodfilter.so", "lib/libodfilter.so.0", "lib/pkgconfig/odfilter.pc")
+WINDOWS = ("bin/odfilter.dll", "lib/libodfilter.dll.a")
+
+
+def files_of_library(kit, names=LIBRARY):
     """The library and the pages: where each stands in an archive, and where it is."""
-    for name in ("lib/libodfilter.a", "lib/libodfilter.so", "lib/libodfilter.so.0", "lib/pkgconfig/odfilter.pc"):
-        yield name, f"{kit}/{name}"
+    yield from ((name, f"{kit}/{name}") for name in names)
     yield from ((f"include/odfilter.{kind}", f"{TOP}/include/odfilter.{kind}") for kind in ("h", "json"))
     for path in [*(f"{TOP}/{name}" for name in TOP_PAGES), *sorted(glob.glob(f"{TOP}/docs/*.*"))]:
         yield f"{PAGES}/{os.path.relpath(path, TOP)}", path
@@ -119,13 +124,30 @@ def made_for_arm64(folder, kit, version):
     return packed(folder, f"odfilter-{version}-aarch64", dict(files_of_library(kit)), version, ["odfilter_c"])
 
 
-def packed(folder, name, found, version, roots):
+def made_for_windows(folder, kit, version):
+    """Makes the archive of the library for Windows."""
+    name = f"odfilter-{version}-windows-x86_64"
+    contents, bill = inside(name, dict(files_of_library(kit, WINDOWS)), version, ["odfilter_c"])
+    with zipfile.ZipFile(f"{folder}/{name}.zip", "w") as archive:
+        for place, text in [*contents.items(), (BILL, bill)]:
+            # one date for all, so that one file is made of one content
+            entry = zipfile.ZipInfo(f"{name}/{place}", (1980, 1, 1, 0, 0, 0))
+            archive.writestr(entry, text, zipfile.ZIP_DEFLATED)
+    return f"{folder}/{name}.zip", name
+
+
+def inside(name, found, version, roots):
+    """What the files of an archive hold, and the list of them."""
     places = {os.path.normpath(path): place for place, path in found.items()}
     contents = {it: content(path, it, places) for it, path in found.items() if not os.path.islink(path)}
     kit_version = subprocess.run(["rt", "version"], capture_output=True, check=True, timeout=60).stdout.decode().strip()
     own, others = crates_below(roots)
     crates = [(it, version) for it in own] + [(it, kit_version) for it in others]
-    bill = bill_of(name, version, crates, contents)
+    return contents, bill_of(name, version, crates, contents)
+
+
+def packed(folder, name, found, version, roots):
+    contents, bill = inside(name, found, version, roots)
     written = io.BytesIO()
     with gzip.GzipFile("", "wb", 9, written, mtime=0) as squeezed, tarfile.open(fileobj=squeezed, mode="w") as archive:
         for place, path in [*found.items(), (BILL, f"{TOP}/README.md")]:
