@@ -1,10 +1,15 @@
 """The C library as tests and benches take it: the shared one, those for ARM64 and Windows, and the module of
 WebAssembly. Each is the one that a variable names, or it is built."""
+import contextlib
+import glob
+import hashlib
 import os
 import subprocess
+import tempfile
 
 TOP = os.path.dirname(os.path.dirname(os.path.realpath(__file__)))
 MODULE = f"{TOP}/bindings/python"
+WINE = "/usr/lib/wine/wine64"
 
 
 def has_library(room):
@@ -35,13 +40,38 @@ def has_windows(room):
     return has_target(room, "ODFILTER_WINDOWS", "x86_64-w64-windows-gnu")
 
 
+def in_wine(room):
+    """How a program for Windows is run in a folder: the first one makes what wine stores there."""
+    how = {"cwd": room, "env": {**os.environ, "WINEPREFIX": f"{room}/wine", "WINEDEBUG": "-all"}}
+    if not os.path.exists(f"{room}/wine"):
+        subprocess.run([WINE, "hostname"], capture_output=True, timeout=600, **how)
+    return how
+
+
 def has_target(room, variable, target):
     """The folder that the variable names, or one with the library for that target, built of the module of the proved
-    build for x86-64 without a proof more."""
+    build for x86-64 without a proof more. It stays beside the module, for the next test of the same sources."""
     if variable not in os.environ:
         subprocess.run([f"{TOP}/bindings/c/build", f"{room}/kit"], check=True)
-        env = {**os.environ, "MODULE": f"{TOP}/crates/odfilter_c/out/libodfilter_c.bc"}
-        subprocess.run([f"{TOP}/bindings/c/build", "--target", target, f"{room}/{target}"], check=True, env=env)
-        os.environ[variable] = f"{room}/{target}"
+        out = f"{TOP}/crates/odfilter_c/out"
+        module = f"{out}/libodfilter_c.bc"
+        to = f"{out}/{target}-{checksum_of(module)[:16]}"
+        if not os.path.exists(to):
+            with tempfile.TemporaryDirectory(dir=out) as part:
+                words = [f"{TOP}/bindings/c/build", "--target", target, f"{part}/made"]
+                subprocess.run(words, check=True, env={**os.environ, "MODULE": module})
+                # where another test was first, its folder stays
+                with contextlib.suppress(OSError):
+                    os.rename(f"{part}/made", to)
+        os.environ[variable] = to
     os.environ[variable] = os.path.realpath(os.environ[variable])
     return os.environ[variable]
+
+
+def checksum_of(module):
+    """The checksum of all that a library for another platform is built of."""
+    found, others = hashlib.sha256(), [f"{TOP}/include/odfilter.h", f"{TOP}/bindings/byte_shuffle.py"]
+    for path in [module, *others, *sorted(glob.glob(f"{TOP}/bindings/c/*"))]:
+        with open(path, "rb") as file:
+            found.update(file.read())
+    return found.hexdigest()
