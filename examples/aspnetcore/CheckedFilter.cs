@@ -7,7 +7,8 @@ using Odfilter;
 /// <summary>An endpoint filter for ASP.NET Core: app.MapGet("/Items", ..).AddEndpointFilter(new
 /// CheckedFilter(entities)). It passes on requests whose $filter is accepted and has at most so many nodes, with its
 /// canonical text in the query, and answers others by 400 and the standard's error body. An endpoint has the filter as
-/// the item FilterItem, until it has answered.</summary>
+/// the item FilterItem, until it has answered. It takes that or the query: an argument that was bound before has the
+/// client's own text, and a space for each of its plus signs.</summary>
 public sealed class CheckedFilter : IEndpointFilter
 {
     public const string FilterItem = "odata.filter";

@@ -17,8 +17,8 @@ function withValue(url, filter, text) {
 
 /**
  * Middleware for Express and Connect. It passes on requests whose filter is accepted and has at most so many nodes,
- * with its canonical text in the address, and answers others by 400. A handler has the filter as `request.odataFilter`,
- * until the answer is finished.
+ * with its canonical text in the address and in `request.query`, and answers others by 400. A handler has the filter as
+ * `request.odataFilter`, until the answer is finished.
  */
 function checked(entities, { mostNodes = 100 } = {}) {
   return (request, response, next) => {
@@ -44,6 +44,10 @@ function checked(entities, { mostNodes = 100 } = {}) {
       }
       request.odataFilter = filter;
       request.url = withValue(request.url, filter, filter.canonical);
+      // Express 4 has read the query before; its reader would take the client's own `+` for a space
+      if (Object.hasOwn(request, 'query')) {
+        request.query = request.app.get('query parser fn')(request.url.slice(mark + 1));
+      }
     }
     next();
   };

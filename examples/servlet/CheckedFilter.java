@@ -16,7 +16,8 @@ import org.odfilter.QueryRefusedException;
 /**
  * A Servlet filter. It passes on requests whose $filter is accepted and has at most so many nodes, with its canonical
  * text in the query, and answers others by 400 and the standard's error body. A servlet has the filter as the attribute
- * FILTER, until it has answered.
+ * FILTER, until it has answered. It takes that or getQueryString: getParameter has the client's own text, and a space
+ * for each of its plus signs.
  */
 final class CheckedFilter implements Filter {
     static final String FILTER = "odata.filter";

@@ -13,12 +13,14 @@ from .common import environment_with
 __all__ = ["checks_of_server"]
 SCHEMA = f"{TOP}/crates/odfilter/data/schema.json"
 START = 120  # seconds in which a server says where it listens
-# what is asked, and the query and the paths with which a handler answers
+# what is asked, and the query, the paths and the filter with which a handler answers
 PASSED = [
-    ("$top=5&$filter=(Active)%20AND%20ID%20eq%20+01&x=1", "$top=5&$filter=Active and ID eq 1&x=1", "Active ID"),
-    ("%24FILTER=Name%20eq%20%27%C3%A9%26%2B%25%27", "%24FILTER=Name eq '\u00e9&+%'", "Name"),
-    ("$top=5", "$top=5", ""),
-    ("", "", ""),
+    ("$top=5&$filter=(Active)%20AND%20ID%20eq%20+01&x=1", "$top=5&$filter=Active and ID eq 1&x=1", "Active ID",
+     "Active and ID eq 1"),
+    ("%24FILTER=Name%20eq%20%27%C3%A9%26%2B%25%27", "%24FILTER=Name eq '\u00e9&+%'", "Name", "Name eq '\u00e9&+%'"),
+    ("$filter=Name%20eq%20%27a+b%27", "$filter=Name eq 'a+b'", "Name", "Name eq 'a+b'"),
+    ("$top=5", "$top=5", "", ""),
+    ("", "", "", ""),
 ]
 # what is asked, and the code and the inner error of the answer
 REFUSED = [
@@ -65,12 +67,14 @@ def checks_of_server(name, words, room, **how):
         yield f"{name} listens", ":" in address, open(f"{room}/server.errors", "rb").read()[-2_000:]
         if ":" not in address:
             return
-        for query, wanted, paths in PASSED:
+        for query, wanted, paths, read in PASSED:
             said = ask(address, f"/Items?{query}" if query else "/Items")
-            got, _, rest = said[2].partition("\n")
+            got, found, *parsed = said[2].split("\n")
             is_well = said[0] == 200 and urllib.parse.unquote(got) == urllib.parse.unquote(wanted)
             # the value stands alone in the query: none of its characters is one of the query's
-            is_well = is_well and got.count("&") == query.count("&") and rest.strip() == paths
+            is_well = is_well and got.count("&") == query.count("&") and found.strip() == paths
+            # where the framework reads queries before the filter is checked, what it has read is the checked text
+            is_well = is_well and parsed in ([], [""], [read, ""])
             yield f"{name} passes on {query}", is_well, said
         for query, code, inner in REFUSED:
             said = ask(address, f"/Items?{query}")
