@@ -24,12 +24,12 @@ public sealed class CheckedFilter : IEndpointFilter
     public async ValueTask<object> InvokeAsync(EndpointFilterInvocationContext context, EndpointFilterDelegate next)
     {
         var request = context.HttpContext.Request;
-        var query = (request.QueryString.Value ?? "").TrimStart('?');
+        var given = Encoding.UTF8.GetBytes((request.QueryString.Value ?? "").TrimStart('?'));
         Filter filter;
         FilterRefusedException refusal;
         try
         {
-            if (!entities.TryCheckUrl(Encoding.UTF8.GetBytes(query), out filter, out refusal))
+            if (!entities.TryCheckUrl(given, out filter, out refusal))
             {
                 var span = new[] { refusal.Bytes.Start, refusal.Bytes.Stop };
                 return Refused(refusal.Code, refusal.Message, new { span, pointer = refusal.Pointed });
@@ -50,8 +50,9 @@ public sealed class CheckedFilter : IEndpointFilter
                 return Refused("TooComplex", "The filter has too many nodes.", null);
             }
             var text = Uri.EscapeDataString(filter.Canonical);
-            var value = query.Substring(0, filter.Value.Start) + text + query.Substring(filter.Value.Stop);
-            request.QueryString = new QueryString("?" + value);
+            var before = Encoding.UTF8.GetString(given, 0, filter.Value.Start);
+            var after = Encoding.UTF8.GetString(given, filter.Value.Stop, given.Length - filter.Value.Stop);
+            request.QueryString = new QueryString("?" + before + text + after);
             context.HttpContext.Items[FilterItem] = filter;
             return await next(context);
         }
