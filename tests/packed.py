@@ -85,6 +85,8 @@ def of_go(room, kit, package):
     yield "go get takes it from a proxy", done[0] == 0, done
     installed = f"{room}/go-path/pkg/mod/{head}"
     yield from has_library(room, f"{installed}/lib/linux_amd64/libodfilter.a", f"{kit}/lib/libodfilter.a")
+    on_arm64 = f"{installed}/lib/linux_arm64/libodfilter.a"
+    yield from has_library(room, on_arm64, f"{os.environ['ODFILTER_ARM64']}/lib/libodfilter.a")
     yield from stands_alone(room, f"{installed}/README.md")
     words, to = ["go", "run", "."], f"{room}/program"
     yield from prints_page(to, page_of("go"), "go", f"{to}/main.go", words, more=more)
@@ -110,8 +112,10 @@ def of_rust(room, kit, *crates):
 
 def of_java(room, kit, jar):
     with zipfile.ZipFile(jar) as file:
-        file.extract("native/linux-x86-64/libodfilter.so", room)
-    yield from has_library(room, f"{room}/native/linux-x86-64/libodfilter.so", f"{kit}/lib/libodfilter.so")
+        file.extractall(room, [it for it in file.namelist() if it.startswith("native/")])
+    for platform, wanted in (("x86-64", kit), ("aarch64", os.environ["ODFILTER_ARM64"])):
+        path = f"{room}/native/linux-{platform}/libodfilter.so"
+        yield from has_library(room, path, f"{wanted}/lib/libodfilter.so")
     words = [*UNNAMED, "java", "-cp", f"{jar}:{JNA}", "Page.java"]
     yield from prints_page(room, page_of("java"), "java", f"{room}/Page.java", words)
 
