@@ -27,6 +27,7 @@ uint32_t odfilter_fault_name(uint32_t, uint32_t, odfilter_buffer, odfilter_answe
 uint32_t odfilter_fault_text(const odfilter_handle *, uint32_t, odfilter_bytes, odfilter_buffer,
                              const odfilter_answer *, odfilter_answer *);
 uint32_t odfilter_free(odfilter_handle **);
+uint32_t odfilter_fits(uint64_t);
 ]]
 
 local OK, TOO_SMALL, NO_FILTER, TEXT_FAULT, TYPE_FAULT, QUERY_FAULT = 0, 4, 7, 17, 19, 20
@@ -124,6 +125,9 @@ return {
   -- loads the shared library of that path
   load = function(path)
     library = ffi.load(path)
+    if library.odfilter_fits(ffi.sizeof "odfilter_answer") ~= OK then
+      error("odfilter: the library is newer than this module: its answers are longer", 2)
+    end
     return odfilter
   end,
 }
