@@ -112,7 +112,7 @@ internal static partial class Tests
         var before = Settled();
         Calls(50000);
         var after = Settled();
-        That("a million calls", after < before + (64 << 20), before + " bytes became " + after);
+        That("a million calls", after < before + (16 << 20), before + " bytes became " + after);
         Console.WriteLine("figure: " + ((after - before) >> 10) + " KiB more after a million calls");
     }
 

@@ -104,7 +104,7 @@ if (!isMainThread) {
     const before = process.memoryUsage.rss();
     await calls(50_000);
     const grown = process.memoryUsage.rss() - before;
-    assert.ok(grown < 48 << 20, `${grown} bytes more`);
+    assert.ok(grown < 24 << 20, `${grown} bytes more`);
     console.log(`figure: ${grown >> 10} KiB more after a million calls`);
   });
 }
