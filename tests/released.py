@@ -116,18 +116,22 @@ def bill_of(name, version, crates, contents):
 def made(folder, program, kit, version, extension):
     """Makes the archive for x86-64 in a folder: of the same files the same, byte for byte."""
     found = dict(files(program, kit, extension))
-    return packed(folder, f"odfilter-{version}-x86_64", found, version, ["odfilter", "odfilter_c"])
+    linked = [("liblibc_c", said_by("rt", "version")), ("libgcc", said_by("gcc", "-dumpfullversion"))]
+    return packed(folder, f"odfilter-{version}-x86_64", found, version, ["odfilter", "odfilter_c"], linked)
 
 
 def made_for_arm64(folder, kit, version):
     """Makes the archive of the library for ARM64."""
-    return packed(folder, f"odfilter-{version}-aarch64", dict(files_of_library(kit)), version, ["odfilter_c"])
+    linked = [("libgcc", said_by("aarch64-linux-gnu-gcc", "-dumpfullversion"))]
+    return packed(folder, f"odfilter-{version}-aarch64", dict(files_of_library(kit)), version, ["odfilter_c"], linked)
 
 
 def made_for_windows(folder, kit, version):
     """Makes the archive of the library for Windows."""
     name = f"odfilter-{version}-windows-x86_64"
-    contents, bill = inside(name, dict(files_of_library(kit, WINDOWS)), version, ["odfilter_c"])
+    linked = [("libgcc", said_by("x86_64-w64-mingw32-gcc", "-dumpfullversion"))]
+    linked += [("mingw-w64", said_by("dpkg-query", "-W", "-f", "${Version}", "mingw-w64-x86-64-dev"))]
+    contents, bill = inside(name, dict(files_of_library(kit, WINDOWS)), version, ["odfilter_c"], linked)
     with zipfile.ZipFile(f"{folder}/{name}.zip", "w") as archive:
         for place, text in [*contents.items(), (BILL, bill)]:
             # one date for all, so that one file is made of one content
@@ -136,18 +140,22 @@ def made_for_windows(folder, kit, version):
     return f"{folder}/{name}.zip", name
 
 
-def inside(name, found, version, roots):
-    """What the files of an archive hold, and the list of them."""
+def said_by(*words):
+    return subprocess.run(words, capture_output=True, check=True, timeout=60).stdout.decode().strip()
+
+
+def inside(name, found, version, roots, linked):
+    """What the files of an archive hold, and the list of them and of what was compiled or linked in."""
     places = {os.path.normpath(path): place for place, path in found.items()}
     contents = {it: content(path, it, places) for it, path in found.items() if not os.path.islink(path)}
-    kit_version = subprocess.run(["rt", "version"], capture_output=True, check=True, timeout=60).stdout.decode().strip()
     own, others = crates_below(roots)
+    kit_version = said_by("rt", "version")
     crates = [(it, version) for it in own] + [(it, kit_version) for it in others]
-    return contents, bill_of(name, version, crates, contents)
+    return contents, bill_of(name, version, [*crates, *linked], contents)
 
 
-def packed(folder, name, found, version, roots):
-    contents, bill = inside(name, found, version, roots)
+def packed(folder, name, found, version, roots, linked):
+    contents, bill = inside(name, found, version, roots, linked)
     written = io.BytesIO()
     with gzip.GzipFile("", "wb", 9, written, mtime=0) as squeezed, tarfile.open(fileobj=squeezed, mode="w") as archive:
         for place, path in [*found.items(), (BILL, f"{TOP}/README.md")]:
