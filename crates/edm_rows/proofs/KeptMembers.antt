@@ -9,9 +9,10 @@ use Rattle.serde_json.proofs.Views.{get_member-put, get_member-put_other}
 use Rattle.csdl_schema.specs.SchemaModel.{HasDistinctNames, PropertyModel, Slots, slots_behind}
 use Rattle.edm_values.specs.declared.value.Value.{Value, Null}
 use Rattle.edm_rows.specs.RowReading.{Names}
-use Rattle.edm_entities.specs.Row.{ValAtType, val_of}
-use Rattle.edm_rows.specs.private.Passed.{FitSlotsBut, FitsSeen, FitsSomeProperty, MayBeAbsent, SlotsSoFarBut, every_name}
+use Rattle.edm_entities.specs.Row.{ValAtType, field_of, val_of}
+use Rattle.edm_rows.specs.private.Passed.{FitSlotsBut, FitsSeen, FitsSomeProperty, MayBeAbsent, SeenAlike, SlotsSoFarBut, every_name}
 use Rattle.json_room.specs.private.ItemTokens.{ReadsMembers}
+use Rattle.edm_rows.proofs.AlikeValues.{fields_but}
 use Rattle.edm_rows.proofs.RowLemmas.Passing.{all_passed, others_passed, passed_set, passed_start}
 use Rattle.std.proofs.lemmas.List.{length-set}
 use Rattle.json.specs.Lex.{fresh, after_value}
@@ -23,7 +24,7 @@ use Rattle.edm_rows.specs.declared.passed_value.ReadContext.{ReadContext}
 use Rattle.edm_rows.specs.declared.row_types.RowSlot.{RowSlot}
 use Rattle.json_room.specs.ValueStands.{ValueStands}
 use Rattle.json_room.specs.private.ValuesStand.{NamesTo}
-use Rattle.edm_rows.specs.private.KeptRows.{IsRejectedIn, IsRowRejected, names_unkept_in, root_properties, root_slots}
+use Rattle.edm_rows.specs.private.KeptRows.{IsRejectedIn, IsRowRejected, IsTakenAs, names_left, names_passed, root_properties, root_slots}
 use Rattle.edm_rows.specs.private.KeptSoFar.{FillsAbsent, KeptRead, KeptUpTo, RejectedSoFar, SameMarks, SoFar}
 use Rattle.edm_rows.specs.private.Members.{EndsMember, PassesOther}
 use Rattle.edm_rows.proofs.KeptSlots.{kept_over, passed_more, slot_stays}
@@ -100,7 +101,7 @@ module _ (context : ReadContext) (rows : List RowSlot) where
   ps = root_properties context
 
   abbrev Unkept : Names
-  Unkept = names_unkept_in (root_properties context) rows
+  Unkept = names_left context rows
 
   pub kept_none : (from place : ℕ) (values : List Value) → PassesSpaces context.line from place → length values ≡ length (root_properties context) → KeptUpTo context rows from place 0 false values
   kept_none from place values passed long =
@@ -175,20 +176,24 @@ module _ (context : ReadContext) (rows : List RowSlot) where
         (λ filled found json so_far fits.
         let seen_as = seen_at json (slice_get ps slot.index) fits in
         subst (λ vs. SlotsSoFarBut slots Unkept ps (put name json found) (slice_set filled slot.index true) vs) (slot_stays values slot.index there.0 there.1)
-        (passed_set slots Unkept found name json ps filled values slot.index there.0 seen_as.0 distinct named seen_as.1 (inl (slot.index, kept_is rows slot.index slot is_slot unkept, named)) so_far))
+        (passed_set slots Unkept found name json ps filled values slot.index there.0 seen_as.0 distinct named seen_as.1 (inl (inl (slot.index, kept_is rows slot.index slot is_slot unkept, named))) so_far))
       where
         kept_is : (rs : List RowSlot) (n : ℕ) (s : RowSlot) → slice_get rs n ≡ Some s → s.is_kept ≡ false → slice_get (map (λ s. s.is_kept) rs) n ≡ Some false
         kept_is [] n s at is = absurd (cc)
         kept_is (r ∷ rs) zero s at is = let same : r ≡ s = cc in ap (λ (x : RowSlot). Some x.is_kept) same ∙ ap Some is
         kept_is (r ∷ rs) (suc n) s at is = kept_is rs n s at is
 
+    alike_at : (v : Value) (seen_as : ValAtType) (o : Option PropertyModel) → IfSome o (λ p. SeenAlike (slots_behind slots p.name) (names_passed context) p.type_of (val_of v) seen_as) → IfSome o (λ p. SeenAlike slots Unkept p.type_of (val_of v) seen_as)
+    alike_at v seen_as None alike = tt
+    alike_at v seen_as (Some p) alike = fields_but (names_passed context) Unkept (λ n passed. inr passed) (field_of slots.properties p.type_of (val_of v)) (field_of slots.properties p.type_of seen_as) alike
+
     -- a value that is put into its slot
     pub taken : (values : List Value) (v : Value) → KeptUpTo context rows from place seen false values
-        → ValueStands context.depth context.line value end (λ json. IfSome (slice_get (root_properties context) slot.index) (λ p. FitsSeen (slots_behind (root_slots context) p.name) p.nullable p.type_of (Some json) (val_of v)))
+        → ValueStands context.depth context.line value end (IsTakenAs context slot (val_of v))
         → KeptRead context rows from end more false (slice_set values slot.index v)
     taken values v =
-        behind false false values (slice_set values slot.index v) (λ json. IfSome (slice_get (root_properties context) slot.index) (λ p. FitsSeen (slots_behind (root_slots context) p.name) p.nullable p.type_of (Some json) (val_of v)))
-        (λ filled found json so_far fits. passed_set slots Unkept found name json ps filled values slot.index v (val_of v) distinct named fits (inr refl) so_far)
+        behind false false values (slice_set values slot.index v) (IsTakenAs context slot (val_of v))
+        (λ filled found json so_far takes. passed_set slots Unkept found name json ps filled values slot.index v takes.0 distinct named takes.1 (inr (alike_at v takes.0 (slice_get ps slot.index) takes.2)) so_far)
 
     -- a value that is rejected
     pub rejected_now : (values : List Value) → slot.is_kept ≡ true → KeptUpTo context rows from place seen false values → ValueStands context.depth context.line value end (IsRejectedIn context slot slot.sieve) → KeptRead context rows from end more true values
@@ -254,7 +259,7 @@ module _ (context : ReadContext) (rows : List RowSlot) where
 
   -- what the members that were found are, once the slots that were not seen are null
   abbrev Last : Bool → List Value → Members → Type 0
-  Last b new found = MatchBool b (IsRowRejected context rows found) (FitSlotsBut (root_slots context) (names_unkept_in (root_properties context) rows) (object found) (root_properties context) new)
+  Last b new found = MatchBool b (IsRowRejected context rows found) (FitSlotsBut (root_slots context) (names_left context rows) (object found) (root_properties context) new)
 
   last_found : (seen : ℕ) (filled : List Bool) (is_left_out : Bool) (old new : List Value) → length rows ≡ length (root_properties context) → FillsAbsent context rows seen old new → length filled ≡ length (root_properties context) → SameMarks seen filled
       → (found : Members) → SoFar context rows is_left_out seen filled old found → Last is_left_out new found
@@ -304,7 +309,7 @@ module _ (context : ReadContext) (rows : List RowSlot) where
             where
               go : (o : Option PropertyModel) → slice_get ps k ≡ o → IfSome o (MayBeAbsent slots) → IfSome o (λ p. MayBeAbsent slots p × (Unkept p.name ⊎ (slice_get new k ≡ Some Null)))
               go None at may_absent = tt
-              go (Some p) at may_absent = (may_absent, inl (k, unkept, name_of ps k p at))
+              go (Some p) at may_absent = (may_absent, inl (inl (k, unkept, name_of ps k p at)))
 
       last : (b : Bool) (found : Members) → SoFar context rows b seen filled old found → Last b new found
       last true found (passed, before) =
@@ -325,7 +330,7 @@ module _ (context : ReadContext) (rows : List RowSlot) where
 
   pub kept_brace : (from end next seen : ℕ) (is_left_out : Bool) (old new : List Value) → length rows ≡ length (root_properties context) → FillsAbsent context rows seen old new → KeptRead context rows from end seen is_left_out old → EndsMember context.line end (After.Brace next)
       → ReadsMembers context.depth (tokens_at fresh context.line from) (tokens_at after_value context.line next)
-      (λ found. MatchBool is_left_out (IsRowRejected context rows found) (FitSlotsBut (root_slots context) (names_unkept_in (root_properties context) rows) (object found) (root_properties context) new))
+      (λ found. MatchBool is_left_out (IsRowRejected context rows found) (FitSlotsBut (root_slots context) (names_left context rows) (object found) (root_properties context) new))
   kept_brace from end next seen is_left_out old new as_many fills read ends =
       brace_then context.depth context.line from end next (SoFar context rows is_left_out seen read.filled old) (Last is_left_out new)
       (λ found holds. last_found seen read.filled is_left_out old new as_many fills read.long read.marks found holds) read.members ends
@@ -333,7 +338,7 @@ module _ (context : ReadContext) (rows : List RowSlot) where
   -- a brace where no member stands
   pub kept_empty : (from brace : ℕ) (old new : List Value) → length rows ≡ length (root_properties context) → FillsAbsent context rows 0 old new → length old ≡ length (root_properties context) → PassesSpaces context.line from brace
       → brace < length context.line → get_or context.line brace 32 ≡ 125 → ReadsMembers context.depth (tokens_at fresh context.line from) (tokens_at after_value context.line (brace + 1))
-      (λ found. MatchBool false (IsRowRejected context rows found) (FitSlotsBut (root_slots context) (names_unkept_in (root_properties context) rows) (object found) (root_properties context) new))
+      (λ found. MatchBool false (IsRowRejected context rows found) (FitSlotsBut (root_slots context) (names_left context rows) (object found) (root_properties context) new))
   kept_empty from brace old new as_many fills long passed within closes =
       let n = length (root_properties context) in
       let filled = replicate n false in

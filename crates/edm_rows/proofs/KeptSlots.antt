@@ -10,9 +10,10 @@ use Rattle.csdl_schema.specs.SchemaModel.{PropertyModel, PropertyType, Slots, Ha
 use Rattle.edm_rows.specs.RowReading.{Names}
 use Rattle.edm_entities.specs.Fits.{FitsNavigation, FitsProperty}
 use Rattle.edm_entities.specs.Row.{field_of, val_of}
-use Rattle.edm_rows.specs.private.Passed.{FitsSeen, FitsSlotBut, FitsSoFarBut, MayBeAbsent}
+use Rattle.edm_rows.specs.private.Passed.{FitsSeen, FitsSlotBut, FitsSoFarBut, MayBeAbsent, SeenAlike}
 use Rattle.edm_rows.specs.private.SlotsSoFar.{HoldEachSoFar}
 use Rattle.edm_entities.specs.private.Walk.{FitsSlot, HoldEach, HoldsInSlot}
+use Rattle.edm_rows.proofs.AlikeValues.{fields_but, seen_alike}
 use Rattle.edm_rows.proofs.SlotsHeld.{apart, found_in}
 use Rattle.edm_entities.proofs.SlotLemmas.EachSlot.{null_in_slot}
 use Rattle.edm_rows.specs.private.KeptRows.{RowConforms}
@@ -101,16 +102,19 @@ over_slot : (slots : Slots) (Passed : Names) (found : List ℕ → Option Data) 
     → FitsSoFarBut slots Passed found p b v → FitsSlotBut slots Passed found p w
 over_slot slots Passed found p true v w same absent fits = (fits.0, fits.1, kept fits.2)
   where
-    kept : Passed p.name ⊎ (fits.0 ≡ val_of v) → Passed p.name ⊎ (fits.0 ≡ val_of w)
+    kept : Passed p.name ⊎ SeenAlike slots Passed p.type_of (val_of v) fits.0 → Passed p.name ⊎ SeenAlike slots Passed p.type_of (val_of w) fits.0
     kept (inl passed) = inl passed
-    kept (inr is) = inr (is ∙ ap val_of (let one : Some w ≡ Some v = same refl in let two : w ≡ v = cc in sym two))
+    kept (inr alike) =
+        let one : Some w ≡ Some v = same refl in
+        let two : w ≡ v = cc in
+        inr (subst (λ (x : Value). SeenAlike slots Passed p.type_of (val_of x) fits.0) (sym two) alike)
 over_slot slots Passed found p false v w same absent none =
     let may = absent refl in
     (val_of Null, subst (λ (o : Option Data). FitsSeen (slots_behind slots p.name) p.nullable p.type_of o (val_of Null)) (sym none) may.0, null_kept may.1)
   where
-    null_kept : Passed p.name ⊎ (w ≡ Null) → Passed p.name ⊎ (val_of Null ≡ val_of w)
+    null_kept : Passed p.name ⊎ (w ≡ Null) → Passed p.name ⊎ SeenAlike slots Passed p.type_of (val_of w) (val_of Null)
     null_kept (inl passed) = inl passed
-    null_kept (inr is) = inr (ap val_of (sym is))
+    null_kept (inr is) = inr (seen_alike slots Passed p.type_of (val_of w) (val_of Null) (ap val_of is))
 
 pub kept_over : (slots : Slots) (Passed : Names) (found : List ℕ → Option Data) (ps : List PropertyModel) (filled : List Bool) (old new : List Value) → length new ≡ length ps
     → ((k : ℕ) → get_or filled k false ≡ true → slice_get new k ≡ slice_get old k)
@@ -136,9 +140,9 @@ fewer_slot : (slots : Slots) (Passed More : Names) (found : List ℕ → Option 
 fewer_slot slots Passed More found p false v more none = none
 fewer_slot slots Passed More found p true v more fits = (fits.0, fits.1, kept fits.2)
   where
-    kept : Passed p.name ⊎ (fits.0 ≡ val_of v) → More p.name ⊎ (fits.0 ≡ val_of v)
+    kept : Passed p.name ⊎ SeenAlike slots Passed p.type_of (val_of v) fits.0 → More p.name ⊎ SeenAlike slots More p.type_of (val_of v) fits.0
     kept (inl passed) = inl (more p.name passed)
-    kept (inr is) = inr is
+    kept (inr alike) = inr (fields_but Passed More more (field_of slots.properties p.type_of (val_of v)) (field_of slots.properties p.type_of fits.0) alike)
 
 pub passed_more : (slots : Slots) (Passed More : Names) (found : List ℕ → Option Data) (ps : List PropertyModel) (filled : List Bool) (values : List Value) → ((name : List ℕ) → Passed name → More name)
     → HoldEachSoFar (FitsSoFarBut slots Passed found) ps filled values → HoldEachSoFar (FitsSoFarBut slots More found) ps filled values

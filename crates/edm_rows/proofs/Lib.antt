@@ -1,3 +1,5 @@
+mod AlikeFits
+pub mod AlikeValues
 mod FilledMembers
 mod FilledSteps
 mod FilledValues
@@ -19,6 +21,8 @@ mod SeenMembers
 mod SlotMarks
 mod SlotsHeld
 mod TypesChanged
+mod TypesKept
 mod UnseenNull
 mod Values
+mod ValuesBut
 mod ValuesKept

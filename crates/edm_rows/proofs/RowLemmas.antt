@@ -9,3 +9,4 @@ pub mod RowTypes
 pub mod SlotTexts
 pub mod SlotsFilled
 pub mod SlotsRead
+pub mod SlotsSeen

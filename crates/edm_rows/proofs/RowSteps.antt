@@ -21,7 +21,7 @@ use Rattle.json_room.specs.ValueStands.{ValueStands}
 use Rattle.json_room.specs.private.ValuesStand.{NamesTo}
 use Rattle.edm_rows.specs.private.Held.{IsHeldTo}
 use Rattle.edm_rows.specs.private.HeldRows.{AreTypesOf, HasFirstType}
-use Rattle.edm_rows.specs.private.KeptRows.{FitsSlotAs, GoesOn, IsRejectedIn, IsRootSlot, IsRootType, ReadsRow, RowConforms, TakesValue, root_properties, root_slots}
+use Rattle.edm_rows.specs.private.KeptRows.{GoesOn, IsRejectedIn, IsRootSlot, IsRootType, IsTakenAs, ReadsRow, RowConforms, TakesValue, root_properties, root_slots}
 use Rattle.edm_rows.specs.private.Members.{EndsMember, NamesSlot, PassesOther}
 use Rattle.edm_rows.specs.private.RowSlots.{AreRowTypes, IsRowSlot, IsRowType, kinds_of}
 use Rattle.edm_rows.specs.private.Contexts.{FindsMember, FindsSlot, IsContext, PassesValue, slots_behind_node}
@@ -131,7 +131,7 @@ module _ (context : ReadContext) (rows : List RowSlot) (from place value end see
       (λ json. IfSome (slice_get (root_properties context) slot.index) (λ p. FitsSomeProperty (slots_behind (root_slots context) p.name) p.nullable p.type_of (Some json)))
       (λ json held. in_slot context slot found.root (λ slots nullable type. FitsSomeProperty slots nullable type (Some json)) (found.root.is.fits json held)) passed
 
-  pub put_read : (values : List Value) (v : Value) → KeptUpTo context rows from place seen false values → ValueStands context.depth context.line value end (FitsSlotAs context slot (val_of v)) → KeptRead context rows from end (bit_or seen (2 ^ slot.index)) false (slice_set values slot.index v)
+  pub put_read : (values : List Value) (v : Value) → KeptUpTo context rows from place seen false values → ValueStands context.depth context.line value end (IsTakenAs context slot (val_of v)) → KeptRead context rows from end (bit_or seen (2 ^ slot.index)) false (slice_set values slot.index v)
   put_read values v so_far reads = taken context rows found.distinct from place value end seen slot found.name found.is_slot found.named found.names found.within values v so_far reads
 
   pub rejected_read : (values : List Value) → slot.is_kept ≡ true → KeptUpTo context rows from place seen false values → ValueStands context.depth context.line value end (IsRejectedIn context slot slot.sieve) → KeptRead context rows from end (bit_or seen (2 ^ slot.index)) true values

@@ -1,5 +1,5 @@
 -- A row that is the whole line, and an entity of it.
-use Rattle.std.proofs.Common.{◌≡◌, ◌≢◌, ◌++◌, take, ℕ, zero, suc, ◌+◌, ◌-◌, ◌<◌, List, [], ◌∷◌, length, get_or, arith, Bool, true, false, Option, Some, Vec, Global, IfSome, map, slice_get, refl, sym, ap, ◌∙◌, subst}
+use Rattle.std.proofs.Common.{◌≡◌, ◌≢◌, ⊎_elim, ◌++◌, take, ℕ, zero, suc, ◌+◌, ◌-◌, ◌<◌, List, [], ◌∷◌, length, get_or, arith, Bool, true, false, Option, Some, Vec, Global, IfSome, map, slice_get, refl, sym, ap, ◌∙◌, subst}
 use Rattle.std.proofs.lemmas.List.{take_at}
 use Rattle.std.specs.List.{AllByRecursion}
 use Rattle.json.specs.Json.{value as json_value}
@@ -15,20 +15,24 @@ use Rattle.csdl_schema.specs.ExpansionView.{StepModel}
 use Rattle.csdl_schema.specs.ExprType.{single, structured}
 use Rattle.csdl_schema.specs.SchemaModel.{HasDistinctNames, HoldsType, PropertyModel, SchemaModel, properties_at, slots_behind, slots_of, type_name_at}
 use Rattle.edm_values.specs.SieveMeaning.{Rejects}
-use Rattle.edm_values.specs.Val.{FieldVal, Val, present}
+use Rattle.edm_values.specs.Val.{FieldVal, Val, fields, present}
 use Rattle.edm_values.specs.declared.value.Value.{Value, Record}
 use Rattle.edm_row_plans.specs.Expanded.{slots_at}
 use Rattle.edm_entities.specs.Fits.{FitsProperty}
 use Rattle.edm_entities.specs.Row.{IsEntity, expanded_by, field_by_name, row_with, val_of}
 use Rattle.edm_rows.specs.RowReading.{IsLineBut, Names}
 use Rattle.edm_rows.specs.private.Passed.{FitSlotsBut, IsRowValue, every_name}
+use Rattle.edm_rows.specs.Alike.{AreAlike, alike_records}
+use Rattle.edm_rows.proofs.AlikeValues.{alike_but}
+use Rattle.edm_rows.proofs.SlotMarks.{IsUnmarked, mapped_at}
+use Rattle.edm_rows.proofs.TypesKept.{by_marks}
 use Rattle.edm_rows.proofs.RowLemmas.Passing.{record_seen, seen_record}
 use Rattle.json_room.specs.private.ItemTokens.{ReadsMembers}
 use Rattle.json_room.proofs.Tokens.{whole_read}
 use Rattle.edm_entities.proofs.SlotLemmas.ReadEntities.{is_entity, val_of-Record}
 use Rattle.json_room.specs.ValueStands.{ValueStands}
 use Rattle.edm_rows.specs.RowItems.{IsJsonBut, IsJsonLeftOut}
-use Rattle.edm_rows.specs.RowsOfType.{IsLeftOut, RowsOfType, names_unkept, row_held}
+use Rattle.edm_rows.specs.RowsOfType.{IsLeftOut, RowsOfType, TypeMarks, names_unkept, row_held}
 use Rattle.edm_rows.specs.declared.kept_leaf.Taken.{Taken}
 use Rattle.edm_rows.specs.declared.kept_leaf.Taken.TheVariants.{Broken, Nothing, Put, Rejected}
 use Rattle.edm_rows.specs.declared.passed_value.ReadContext.{ReadContext}
@@ -36,8 +40,8 @@ use Rattle.json_room.proofs.Places.{object_to, reads_to_as, spaces_at}
 use Rattle.json_room.specs.private.ValuesStand.{PassesTo}
 use Rattle.edm_rows.specs.declared.row_types.RowSlot.{RowSlot}
 use Rattle.edm_rows.specs.declared.row_types.RowType.{RowType}
-use Rattle.edm_rows.specs.private.HeldRows.{IsTakenWhole, IsTakenWithin, ReadsRowAt, TakesMembers, TakesObject, first_slots}
-use Rattle.edm_rows.specs.private.KeptRows.{IsRowRejected, ReadsRow, TakesFound, TakesRow, names_unkept_in, root_properties}
+use Rattle.edm_rows.specs.private.HeldRows.{IsTakenWhole, IsTakenWithin, ReadsRowAt, TakesMembers, TakesObject, first_slots, keeps_of, marks_at, marks_of}
+use Rattle.edm_rows.specs.private.KeptRows.{IsRowRejected, ReadsRow, TakesFound, TakesRow, names_left, names_unkept_in, names_unkept_of, root_properties}
 use Rattle.edm_rows.proofs.TypesChanged.{first_slots_are}
 
 module _ (schema : SchemaModel) (id : ℕ) (steps : List StepModel) (held : HoldsType schema id) (distinct : HasDistinctNames (properties_at schema id)) where
@@ -52,12 +56,14 @@ module _ (schema : SchemaModel) (id : ℕ) (steps : List StepModel) (held : Hold
       let ps = properties_at schema id in
       let json = object found in
       let seen = seen_record slots Passed (λ name. get name json) ps values.items distinct but in
+      let whole : List ℕ → FieldVal = field_by_name slots.properties ps seen.seens in
+      let kept : List ℕ → FieldVal = field_by_name slots.properties ps (map val_of values.items) in
       record {
-        whole = field_by_name slots.properties ps seen.seens;
+        whole = fields whole;
         fits = record_seen slots Passed json ps values.items refl seen;
-        kept = field_by_name slots.properties ps (map val_of values.items);
-        value_is = val_of-Record (slots_of schema) (single (structured (type_name_at schema id))) values;
-        agrees = λ name not. sym (seen.agrees name not);
+        alike =
+            subst (λ (v : Val). AreAlike Passed v (fields whole)) (sym (val_of-Record (slots_of schema) (single (structured (type_name_at schema id))) values))
+            (alike_records kept whole seen.agrees);
       }
 
 -- what holds of each property holds of one of them
@@ -73,7 +79,7 @@ sieve_at (r ∷ rows) zero s at = let same : r ≡ s = cc in ap (λ (x : RowSlot
 sieve_at (r ∷ rows) (suc n) s at = sieve_at rows n s at
 
 -- JSON of which a value is rejected
-pub json_left_out : (context : ReadContext) (kept : List Bool) (is_ready : Bool) (value : Value) (slots : List RowSlot) (found : Members) → HasDistinctNames (root_properties context) → IsRowRejected context slots found
+pub json_left_out : (context : ReadContext) (kept : List TypeMarks) (is_ready : Bool) (value : Value) (slots : List RowSlot) (found : Members) → HasDistinctNames (root_properties context) → IsRowRejected context slots found
     → IsJsonLeftOut (object found) (record { schema = context.schema.now; type_id = context.plan.now.type_id; expansion = context.plan.now.expansion; is_whole = context.plan.now.is_whole; kept = kept; sieves = map (λ s. s.sieve) slots; is_ready = is_ready; value = value })
 json_left_out context kept is_ready value slots found distinct rejected =
     let props = slots_at context.schema.now context.plan.now.expansion (Some 0) in
@@ -137,7 +143,7 @@ rows_on context types is_ready row = record {
   type_id = context.plan.now.type_id;
   expansion = context.plan.now.expansion;
   is_whole = context.plan.now.is_whole;
-  kept = map (λ s. s.is_kept) (first_slots types);
+  kept = marks_of types;
   sieves = map (λ s. s.sieve) (first_slots types);
   is_ready = is_ready;
   value = row;
@@ -151,17 +157,23 @@ module _ (context : ReadContext) (row : Value) (taken : Taken) (place to : ℕ) 
       let there = subst (λ (l : List ℕ). ValueStands (depth + 1) l place to P) same (subst (λ (d : ℕ). ValueStands (d + 1) context.line place to P) as_deep reads) in
       reads_to_as (depth + 1) text place to P Q by there
 
-  pub item_taken : taken ≡ Taken.Put to → ValueStands (depth + 1) text place to (λ json. IsJsonBut json (names_unkept (rows_on context types is_ready row)) (row_held (rows_on context types is_ready row)))
-  item_taken is =
+  pub item_taken : ((type : RowType) → slice_get types 0 ≡ Some type → type.type_id ≡ context.plan.now.type_id) → taken ≡ Taken.Put to
+      → ValueStands (depth + 1) text place to (λ json. IsJsonBut json (names_unkept (rows_on context types is_ready row)) (row_held (rows_on context types is_ready row)))
+  item_taken first is =
       let there = subst (TakesObject context row place) is took in
       let values = there.0 in
       let type = there.2.0 in
-      let first = ap first_slots (sym are) ∙ first_slots_are context.types.now type there.2.1 in
-      let Kept : (List RowSlot → Value → Data → Type 0) = λ slots v json. IsJsonBut json (names_unkept_in (root_properties context) slots) (row_with context.schema.now context.plan.now.type_id context.plan.now.expansion v) in
-      item_as (λ json. (found : Members) × (json ≡ object found) × TakesFound context type false values.items found) (λ json. Kept (first_slots types) row json)
+      let at = subst (λ (l : List RowType). slice_get l 0 ≡ Some type) are there.2.1 in
+      let Fewer : Names = names_left context type.slots.items in
+      let All : Names = names_unkept (rows_on context types is_ready row) in
+      let own : ((name : List ℕ) → names_unkept_in (root_properties context) type.slots.items name → All name) = λ name un. (0, marks_at type, mapped_at marks_at types 0 type at, subst (λ (i : ℕ). IsUnmarked (properties_at context.schema.now i) (keeps_of type) name) (sym (first type at)) un) in
+      let more : ((name : List ℕ) → Fewer name → All name) = λ name. ⊎_elim (own name) (λ passed. by_marks context.schema.now types name (subst (λ (l : List RowType). names_unkept_of context.schema.now l name) are passed)) in
+      let Kept : (Value → Data → Type 0) = λ v json. IsJsonBut json All (row_with context.schema.now context.plan.now.type_id context.plan.now.expansion v) in
+      item_as (λ json. (found : Members) × (json ≡ object found) × TakesFound context type false values.items found) (Kept row)
       (λ json reads.
-      let but = json_but context.schema.now context.plan.now.type_id context.plan.now.expansion held distinct (names_unkept_in (root_properties context) type.slots.items) reads.0 values reads.2 in
-      subst (λ (j : Data). Kept (first_slots types) row j) (sym reads.1) (subst (λ (v : Value). Kept (first_slots types) v (object reads.0)) (sym there.1) (subst (λ (l : List RowSlot). Kept l (Record values) (object reads.0)) (sym first) but)))
+      let but = json_but context.schema.now context.plan.now.type_id context.plan.now.expansion held distinct Fewer reads.0 values reads.2 in
+      let wider : Kept (Record values) (object reads.0) = record { whole = but.whole; fits = but.fits; alike = alike_but Fewer All more _ _ but.alike } in
+      subst (λ (j : Data). Kept row j) (sym reads.1) (subst (λ (v : Value). Kept v (object reads.0)) (sym there.1) wider))
       there.2.2
 
   pub item_left_out : taken ≡ Taken.Rejected to → ValueStands (depth + 1) text place to (λ json. IsJsonLeftOut json (rows_on context types is_ready row))
@@ -170,7 +182,7 @@ module _ (context : ReadContext) (row : Value) (taken : Taken) (place to : ℕ) 
       let values = there.0 in
       let type = there.2.0 in
       let first = ap first_slots (sym are) ∙ first_slots_are context.types.now type there.2.1 in
-      let kept = map (λ s. s.is_kept) (first_slots types) in
+      let kept = marks_of types in
       let Out : (List RowSlot → Data → Type 0) = λ slots json. IsJsonLeftOut json (record { schema = context.schema.now; type_id = context.plan.now.type_id; expansion = context.plan.now.expansion; is_whole = context.plan.now.is_whole; kept = kept; sieves = map (λ s. s.sieve) slots; is_ready = is_ready; value = row }) in
       item_as (λ json. (found : Members) × (json ≡ object found) × TakesFound context type true values.items found) (λ json. Out (first_slots types) json)
       (λ json reads.
@@ -206,7 +218,7 @@ module _ (text : List ℕ) (begin to : ℕ) (rows : RowsOfType) (taken : Taken) 
   line_kept is =
       let whole = whole_value text begin to (λ json. IsJsonBut json (names_unkept rows) (row_held rows)) passed (subst (IsTakenWhole text) is last) (subst (ReadsRowAt 126 text begin rows) is reads) in
       let of_json = whole.2 in
-      record { json = whole.0; is_json = (utf8, whole.1); whole = of_json.whole; fits = of_json.fits; kept = of_json.kept; value_is = of_json.value_is; agrees = of_json.agrees }
+      record { json = whole.0; is_json = (utf8, whole.1); whole = of_json.whole; fits = of_json.fits; alike = of_json.alike }
 
   pub line_left_out : taken ≡ Taken.Rejected to → IsLeftOut text rows
   line_left_out is =

@@ -1,7 +1,7 @@
--- A reader of rows stays one when the marks and sieves of its first type are others.
+-- A reader of rows stays one when the marks and sieves of its types are others.
 use Rattle.std.proofs.Common.{◌≡◌, ℕ, zero, suc, List, [], ◌∷◌, inr, length, map, Bool, true, false, Option, None, Some, Vec, Global, IfSome, slice_get, slice_set, refl, sym, ap, ap₂, ◌∙◌, subst, arith}
 use Rattle.std.specs.Prelude.{All}
-use Rattle.csdl_schema.specs.SchemaModel.{HasDistinctNames, properties_at}
+use Rattle.csdl_schema.specs.SchemaModel.{properties_at}
 use Rattle.edm_values.specs.declared.sieve.Sieve.{Sieve}
 use Rattle.edm_values.specs.declared.value.Value.{Value}
 use Rattle.edm_row_plans.specs.Expanded.{slots_at}
@@ -10,14 +10,16 @@ use Rattle.edm_rows.specs.declared.known_texts.Cache.{Cache}
 use Rattle.edm_rows.specs.declared.known_texts.KnownTexts.{KnownTexts}
 use Rattle.edm_rows.specs.private.KnownTexts.{AreKnown}
 use Rattle.edm_rows.specs.HeldSchema.{schema_in}
-use Rattle.edm_rows.specs.RowsOfType.{IsSameButKept, names_unkept, sifted}
+use Rattle.edm_rows.specs.RowsOfType.{IsSameButKept, TypeMarks, sifted}
 use Rattle.edm_rows.specs.declared.row_types.RowSlot.{RowSlot}
 use Rattle.edm_rows.specs.declared.row_types.RowType.{RowType}
 use Rattle.edm_rows.specs.declared.type_rows.TypeRows.TheInside.{Inside}
-use Rattle.edm_rows.specs.private.HeldRows.{AreTypesOf, IsRowsOfType, IsSameType, first_slots, keeps_of, rows_seen, sieves_of}
-use Rattle.edm_rows.specs.private.KeptRows.{names_unkept_in}
+use Rattle.edm_rows.specs.private.HeldRows.{AreSameTypes, AreTypesOf, IsRowsOfType, IsSameType, first_slots, keeps_of, marks_at, marks_of, rows_seen, sieves_of}
 use Rattle.edm_rows.specs.private.RowSlots.{IsFresh, IsFreshType}
-use Rattle.edm_rows.proofs.TypesChanged.{first_changed, first_distinct, first_id, first_slots_are, first_slots_put, types_some}
+use Rattle.std.proofs.lemmas.List.{length-map}
+use Rattle.edm_rows.proofs.SlotMarks.{set_as_was}
+use Rattle.edm_rows.proofs.TypesChanged.{first_changed, first_slots_are, first_slots_put, types_some}
+use Rattle.edm_rows.proofs.TypesKept.{all_changed, either_changed, same_count}
 
 -- ---- a new reader
 
@@ -36,8 +38,11 @@ weaker P Q by None holds = tt
 weaker P Q by (Some x) holds = by x holds
 
 module _ (types : List RowType) (fresh : (place : ℕ) → IfSome (slice_get types place) IsFreshType) where
-  pub none_kept : All (λ kept. kept ≡ false) (map (λ s. s.is_kept) (first_slots types))
-  none_kept = all_of (λ (kept : Bool). kept ≡ false) (λ (s : RowSlot). s.is_kept) (first_slots types) (λ k. weaker IsFresh (λ s. s.is_kept ≡ false) (λ s is. is.0) (slice_get (first_slots types) k) (first_fresh types fresh k))
+  pub none_kept : All (λ marks. All (λ kept. kept ≡ false) marks.kept) (marks_of types)
+  none_kept = all_of (λ (marks : TypeMarks). All (λ kept. kept ≡ false) marks.kept) marks_at types (λ k. weaker IsFreshType (λ t. All (λ kept. kept ≡ false) (keeps_of t)) none_marked (slice_get types k) (fresh k))
+    where
+      none_marked : (t : RowType) → IsFreshType t → All (λ kept. kept ≡ false) (keeps_of t)
+      none_marked t each = all_of (λ (kept : Bool). kept ≡ false) (λ (s : RowSlot). s.is_kept) t.slots.items (λ k. weaker IsFresh (λ s. s.is_kept ≡ false) (λ s is. is.0) (slice_get t.slots.items k) (each k))
 
   pub all_pass : All (λ sieve. sieve ≡ Sieve.All) (map (λ s. s.sieve) (first_slots types))
   all_pass = all_of (λ (sieve : Sieve). sieve ≡ Sieve.All) (λ (s : RowSlot). s.sieve) (first_slots types) (λ k. weaker IsFresh (λ s. s.sieve ≡ Sieve.All) (λ s is. is.1) (slice_get (first_slots types) k) (first_fresh types fresh k))
@@ -47,12 +52,6 @@ module _ (types : List RowType) (fresh : (place : ℕ) → IfSome (slice_get typ
 module _ (rows : Inside) (is : IsRowsOfType rows) (old new : RowType) (at : slice_get rows.types.items 0 ≡ Some old) where
   are : AreTypesOf (schema_in rows.schema) rows.plan rows.types.items
   are = types_some (schema_in rows.schema) rows.plan rows.types.items old at is.types
-
-  pub old_distinct : HasDistinctNames (properties_at (schema_in rows.schema) old.type_id)
-  old_distinct = subst (λ (i : ℕ). HasDistinctNames (properties_at (schema_in rows.schema) i)) (sym (first_id (schema_in rows.schema) rows.plan rows.types.items old at are)) (first_distinct (schema_in rows.schema) rows.plan rows.types.items are)
-
-  pub old_id : old.type_id ≡ rows.plan.type_id
-  old_id = first_id (schema_in rows.schema) rows.plan rows.types.items old at are
 
   pub rows_stay : IsSameType old new → (types : Vec RowType Global) → types.items ≡ slice_set rows.types.items 0 new → IsRowsOfType (record rows { types = types })
   rows_stay same types put =
@@ -65,41 +64,43 @@ module _ (rows : Inside) (is : IsRowsOfType rows) (old new : RowType) (at : slic
   pub slots_now : (types : Vec RowType Global) → types.items ≡ slice_set rows.types.items 0 new → first_slots types.items ≡ new.slots.items
   slots_now types put = ap first_slots put ∙ first_slots_put rows.types.items old new at
 
-  pub same_but_kept : (types : Vec RowType Global) → types.items ≡ slice_set rows.types.items 0 new → length (keeps_of new) ≡ length (keeps_of old) → sieves_of new ≡ sieves_of old → IsSameButKept (rows_seen rows) (rows_seen (record rows { types = types }))
-  same_but_kept types put long sieves = record {
+  pub rows_sifted : IsSameType old new → (types : Vec RowType Global) → types.items ≡ slice_set rows.types.items 0 new → (slot : ℕ) (sieve : Sieve) → keeps_of new ≡ keeps_of old → sieves_of new ≡ sifted (sieves_of old) slot sieve
+      → rows_seen (record rows { types = types }) ≡ record (rows_seen rows) { sieves = sifted (rows_seen rows).sieves slot sieve }
+  rows_sifted same types put slot sieve kept sieves =
+      ap₂ (λ (k : List TypeMarks) (s : List Sieve). record (rows_seen rows) { kept = k; sieves = s })
+      (ap marks_of put ∙ set_as_was marks_at rows.types.items 0 new old at (ap₂ (λ (i : ℕ) (k : List Bool). record { type_id = i; kept = k }) same.type_id kept))
+      (ap (λ (l : List RowSlot). map (λ s. s.sieve) l) (slots_now types put) ∙ sieves ∙ ap (λ (l : List RowSlot). sifted (map (λ s. s.sieve) l) slot sieve) (sym slots_before))
+
+-- ---- other marks in all types
+
+abbrev first_list : List (List Sieve) → List Sieve
+first_list [] = []
+first_list (sieves ∷ more) = sieves
+
+first_sieves : (types : List RowType) → map (λ s. s.sieve) (first_slots types) ≡ first_list (map sieves_of types)
+first_sieves [] = refl
+first_sieves (t ∷ ts) = refl
+
+module _ (rows : Inside) (is : IsRowsOfType rows) (types : Vec RowType Global) (same : AreSameTypes rows.types.items types.items) where
+  pub all_stay : IsRowsOfType (record rows { types = types })
+  all_stay = record {
+    is_plan = is.is_plan;
+    types = either_changed (schema_in rows.schema) rows.plan rows.types.items types.items same is.types;
+    known = is.known;
+    ready = λ e. let ready = is.ready e in (all_changed (schema_in rows.schema) rows.plan rows.types.items types.items same ready.0, ready.1);
+  }
+
+  pub all_but_kept : map sieves_of types.items ≡ map sieves_of rows.types.items → IsSameButKept (rows_seen rows) (rows_seen (record rows { types = types }))
+  all_but_kept sieves = record {
     schema = refl;
     type_id = refl;
     expansion = refl;
     is_whole = refl;
-    slots = ap (λ (l : List RowSlot). length (map (λ s. s.is_kept) l)) (slots_now types put) ∙ long ∙ ap (λ (l : List RowSlot). length (map (λ s. s.is_kept) l)) (sym slots_before);
-    sieves = ap (λ (l : List RowSlot). map (λ s. s.sieve) l) (slots_now types put) ∙ sieves ∙ ap (λ (l : List RowSlot). map (λ s. s.sieve) l) (sym slots_before);
+    slots = length-map types.items marks_at ∙ same_count rows.types.items types.items same ∙ sym (length-map rows.types.items marks_at);
+    sieves = first_sieves types.items ∙ ap first_list sieves ∙ sym (first_sieves rows.types.items);
     is_ready = refl;
     value = refl;
   }
-
-  -- what is not kept before and after, by the types
-  pub before : (name : List ℕ) → names_unkept (rows_seen rows) name → names_unkept_in (properties_at (schema_in rows.schema) old.type_id) old.slots.items name
-  before name un =
-      (un.0, subst (λ (l : List RowSlot). slice_get (map (λ s. s.is_kept) l) un.0 ≡ Some false) slots_before un.1, subst (λ (i : ℕ). slice_get (map (λ p. p.name) (properties_at (schema_in rows.schema) i)) un.0 ≡ Some name) (sym old_id) un.2)
-
-  pub before_again : (name : List ℕ) → names_unkept_in (properties_at (schema_in rows.schema) old.type_id) old.slots.items name → names_unkept (rows_seen rows) name
-  before_again name un =
-      (un.0, subst (λ (l : List RowSlot). slice_get (map (λ s. s.is_kept) l) un.0 ≡ Some false) (sym slots_before) un.1, subst (λ (i : ℕ). slice_get (map (λ p. p.name) (properties_at (schema_in rows.schema) i)) un.0 ≡ Some name) old_id un.2)
-
-  pub now : (types : Vec RowType Global) → types.items ≡ slice_set rows.types.items 0 new → (name : List ℕ) → names_unkept (rows_seen (record rows { types = types })) name → names_unkept_in (properties_at (schema_in rows.schema) old.type_id) new.slots.items name
-  now types put name un =
-      (un.0, subst (λ (l : List RowSlot). slice_get (map (λ s. s.is_kept) l) un.0 ≡ Some false) (slots_now types put) un.1, subst (λ (i : ℕ). slice_get (map (λ p. p.name) (properties_at (schema_in rows.schema) i)) un.0 ≡ Some name) (sym old_id) un.2)
-
-  pub now_again : (types : Vec RowType Global) → types.items ≡ slice_set rows.types.items 0 new → (name : List ℕ) → names_unkept_in (properties_at (schema_in rows.schema) old.type_id) new.slots.items name → names_unkept (rows_seen (record rows { types = types })) name
-  now_again types put name un =
-      (un.0, subst (λ (l : List RowSlot). slice_get (map (λ s. s.is_kept) l) un.0 ≡ Some false) (sym (slots_now types put)) un.1, subst (λ (i : ℕ). slice_get (map (λ p. p.name) (properties_at (schema_in rows.schema) i)) un.0 ≡ Some name) old_id un.2)
-
-  pub rows_sifted : (types : Vec RowType Global) → types.items ≡ slice_set rows.types.items 0 new → (slot : ℕ) (sieve : Sieve) → keeps_of new ≡ keeps_of old → sieves_of new ≡ sifted (sieves_of old) slot sieve
-      → rows_seen (record rows { types = types }) ≡ record (rows_seen rows) { sieves = sifted (rows_seen rows).sieves slot sieve }
-  rows_sifted types put slot sieve kept sieves =
-      ap₂ (λ (k : List Bool) (s : List Sieve). record (rows_seen rows) { kept = k; sieves = s })
-      (ap (λ (l : List RowSlot). map (λ s. s.is_kept) l) (slots_now types put) ∙ kept ∙ ap (λ (l : List RowSlot). map (λ s. s.is_kept) l) (sym slots_before))
-      (ap (λ (l : List RowSlot). map (λ s. s.sieve) l) (slots_now types put) ∙ sieves ∙ ap (λ (l : List RowSlot). sifted (map (λ s. s.sieve) l) slot sieve) (sym slots_before))
 
 -- ---- no types
 

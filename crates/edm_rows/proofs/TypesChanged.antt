@@ -35,6 +35,8 @@ module _ (schema : SchemaModel) (steps : List StepModel) (plans : List TypePlan)
         task = is.task;
         fits = is.fits;
         fills = is.fills;
+        sees = is.sees;
+        seen_at = is.seen_at;
         typed = is.typed;
       }
 

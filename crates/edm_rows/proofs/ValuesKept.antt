@@ -1,10 +1,10 @@
 -- Values of a row's own slots: what a leaf is fits the property of its slot.
-use Rattle.std.proofs.Common.{◌≡◌, ◌≢◌, inl, inr, ℕ, List, Bool, false, Option, Some, IfSome, slice_get, refl, sym, ◌∙◌, subst}
+use Rattle.std.proofs.Common.{◌≡◌, ◌≢◌, inl, inr, ℕ, List, Bool, false, Option, None, Some, IfSome, slice_get, refl, sym, ◌∙◌, subst}
 use Rattle.serde_json.specs.Data.{Data}
 use Rattle.json_room.specs.private.Lexemes.{PassesSpaces}
 use Rattle.csdl_schema.specs.ExprType.{SingleType, primitive, single}
 use Rattle.csdl_schema.specs.PropertyView.{property_type}
-use Rattle.csdl_schema.specs.SchemaModel.{PropertyType, Slots, declared, properties_at, slots_behind}
+use Rattle.csdl_schema.specs.SchemaModel.{PropertyModel, PropertyType, Slots, declared, properties_at, slots_behind}
 use Rattle.edm_values.specs.SieveMeaning.{Rejects}
 use Rattle.edm_values.specs.Val.{FieldVal, Val, absent, present}
 use Rattle.edm_values.specs.Val as val
@@ -14,8 +14,10 @@ use Rattle.edm_values.specs.declared.value.Value.{Value}
 use Rattle.edm_row_plans.specs.Expanded.{slots_at}
 use Rattle.edm_entities.specs.Fits.{FitsProperty, FitsType}
 use Rattle.edm_entities.specs.Row.{val_of}
-use Rattle.edm_rows.specs.private.Passed.{FitsSeen, FitsHoweverNullable}
+use Rattle.edm_rows.specs.private.Passed.{FitsSeen, FitsHoweverNullable, SeenAlike}
 use Rattle.edm_entities.specs.private.Walk.{HoldsInSlot}
+use Rattle.edm_rows.proofs.AlikeValues.{seen_alike}
+use Rattle.edm_rows.proofs.ValuesBut.{property_but}
 use Rattle.edm_rows.proofs.RowLemmas.Leaves.{not_null_fits}
 use Rattle.edm_rows.proofs.RowLemmas.SlotTexts.{slot_declared}
 use Rattle.edm_entities.proofs.SlotLemmas.EachSlot.{primitive_holds}
@@ -26,12 +28,20 @@ use Rattle.edm_rows.specs.declared.row_types.RowSlot.{RowSlot}
 use Rattle.edm_rows.specs.declared.row_types.Task.{Task}
 use Rattle.edm_rows.specs.declared.row_types.Task.TheVariants.{Any, Items, Number, Record, Text, Truth}
 use Rattle.json_room.specs.ValueStands.{ValueStands}
-use Rattle.edm_rows.specs.private.Filled.{FillsValue, IsFilledIn}
+use Rattle.edm_rows.specs.private.Filled.{FillsValue, IsFilledIn, IsFilledInBut}
 use Rattle.edm_rows.specs.private.Held.{IsLeaf, type_of}
 use Rattle.edm_rows.specs.private.KeptLeaves.{IsLeafOf, IsLeafRejected, PutsLeaf, TakesLeaf}
-use Rattle.edm_rows.specs.private.KeptRows.{ConformsInSlot, FitsSlotAs, GoesOn, IsRejectedIn, IsRootSlot, OfSlotProperty, TakesValue}
+use Rattle.edm_rows.specs.private.KeptRows.{ConformsInSlot, FitsSlotAs, GoesOn, IsRejectedIn, IsRootSlot, IsTakenAs, OfSlotProperty, TakesValue, names_passed, root_properties, root_slots}
 use Rattle.json_room.proofs.Places.{reads_behind, reads_to_as}
 use Rattle.edm_rows.specs.private.RowSlots.{HasPrimitive, IsTaskOf, kinds_of}
+
+-- a value that is stored as it is seen
+taken_same : (context : ReadContext) (slot : RowSlot) (v : Value) (json : Data) → FitsSlotAs context slot (val_of v) json → IsTakenAs context slot (val_of v) json
+taken_same context slot v json fits = (val_of v, fits, alike (slice_get (root_properties context) slot.index))
+  where
+    alike : (o : Option PropertyModel) → IfSome o (λ p. SeenAlike (slots_behind (root_slots context) p.name) (names_passed context) p.type_of (val_of v) (val_of v))
+    alike None = tt
+    alike (Some p) = seen_alike (slots_behind (root_slots context) p.name) (names_passed context) p.type_of (val_of v) (val_of v) refl
 
 module _ (context : ReadContext) (slot : RowSlot) (root : IsRootSlot context slot) where
   abbrev inner : Slots
@@ -74,9 +84,9 @@ module _ (context : ReadContext) (slot : RowSlot) (root : IsRootSlot context slo
 
     -- a leaf of a primitive type, or of the slot's enumeration
     module _ (type : PrimitiveType) (is : task_type ≡ primitive type) where
-      pub primitive_put : (line : List ℕ) (depth from to : ℕ) (v : Value) → PutsLeaf line (primitive type) v from to → ValueStands depth line from to (FitsSlotAs context slot (val_of v))
+      pub primitive_put : (line : List ℕ) (depth from to : ℕ) (v : Value) → PutsLeaf line (primitive type) v from to → ValueStands depth line from to (IsTakenAs context slot (val_of v))
       primitive_put line depth from to v puts =
-          reads_to_as depth line from to (FitsHoweverNullable inner (single task_type) v) (FitsSlotAs context slot (val_of v)) (leaf_fits v)
+          reads_to_as depth line from to (FitsHoweverNullable inner (single task_type) v) (IsTakenAs context slot (val_of v)) (λ json fits. taken_same context slot v json (leaf_fits v json fits))
           (subst (λ t. ValueStands depth line from to (FitsHoweverNullable inner (single t) v)) (sym is) (puts.1 inner depth))
 
       pub primitive_rejected : (line : List ℕ) (depth from to : ℕ) (sieve : Sieve) → ((slots : Slots) (d : ℕ) → ValueStands d line from to (IsLeafRejected slots (primitive type) sieve)) → ValueStands depth line from to (IsRejectedIn context slot sieve)
@@ -99,10 +109,19 @@ module _ (context : ReadContext) (slot : RowSlot) (root : IsRootSlot context slo
       let both = root.is.fills v json filled in
       (in_slot context slot root (λ slots nullable type. FitsSeen slots nullable type (Some json) (val_of v)) both.0, in_slot context slot root (λ slots nullable type. HoldsInSlot slots type v) both.1)
 
+  -- a value that was filled is alike to what is seen of its property
+  filled_taken : (v : Value) (json : Data) → IsFilledInBut context slot slot.task v json → IsTakenAs context slot (val_of v) json
+  filled_taken v json filled =
+      let but = property_but context.schema.now context.plan.now.expansion context.plan.now.plans.items slot.index root.planned slot root.is (names_passed context) v json filled in (
+        but.0,
+        in_slot context slot root (λ slots nullable type. FitsSeen slots nullable type (Some json) but.0) but.1,
+        in_slot context slot root (λ slots nullable type. SeenAlike slots (names_passed context) type (val_of v) but.0) but.2,
+      )
+
   -- what was filled stands there
-  pub filled_put : (depth now place end : ℕ) (v : Value) → now ≡ depth → FillsValue context slot slot.task now v place end → ValueStands depth context.line place end (FitsSlotAs context slot (val_of v))
+  pub filled_put : (depth now place end : ℕ) (v : Value) → now ≡ depth → FillsValue context slot slot.task now v place end → ValueStands depth context.line place end (IsTakenAs context slot (val_of v))
   filled_put depth now place end v same fills =
-      reads_to_as depth context.line place end (IsFilledIn context slot slot.task v) (FitsSlotAs context slot (val_of v)) (λ json filled. (filled_there v json filled).0) (subst (λ n. FillsValue context slot slot.task n v place end) same fills).0
+      reads_to_as depth context.line place end (IsFilledInBut context slot slot.task v) (IsTakenAs context slot (val_of v)) (filled_taken v) (subst (λ n. FillsValue context slot slot.task n v place end) same fills).0
 
   -- and its slot conforms
   pub filled_conforms : (v : Value) → (json : Data) × IsFilledIn context slot slot.task v json → ConformsInSlot context slot v
@@ -120,7 +139,7 @@ module _ (context : ReadContext) (slot : RowSlot) (root : IsRootSlot context slo
   leaf_value line depth place old new Nothing same takes = tt
   leaf_value line depth place old new Broken same takes = tt
   leaf_value line depth place old new (Put to) same takes =
-      subst (λ l. ValueStands depth l place to (FitsSlotAs context slot (val_of new))) (sym same) (primitive_put context slot root leaf some type is line depth place to new takes)
+      subst (λ l. ValueStands depth l place to (IsTakenAs context slot (val_of new))) (sym same) (primitive_put context slot root leaf some type is line depth place to new takes)
   leaf_value line depth place old new (Rejected to) same takes =
       (subst (λ l. ValueStands depth l place to (IsRejectedIn context slot slot.sieve)) (sym same) (primitive_rejected context slot root leaf some type is line depth place to slot.sieve takes.0), takes.1)
 
@@ -139,7 +158,7 @@ nothing_stays line type sieve old new place taken takes none = subst (TakesLeaf 
 pub value_from : (context : ReadContext) (slot : RowSlot) (depth from place : ℕ) (old new : Value) (taken : Taken) → PassesSpaces context.line from place → TakesValue context slot depth old new place taken → TakesValue context slot depth old new from taken
 value_from context slot depth from place old new Nothing passed takes = tt
 value_from context slot depth from place old new Broken passed takes = tt
-value_from context slot depth from place old new (Put to) passed takes = reads_behind depth context.line from place to (FitsSlotAs context slot (val_of new)) passed takes
+value_from context slot depth from place old new (Put to) passed takes = reads_behind depth context.line from place to (IsTakenAs context slot (val_of new)) passed takes
 value_from context slot depth from place old new (Rejected to) passed takes = (reads_behind depth context.line from place to (IsRejectedIn context slot slot.sieve) passed takes.0, takes.1)
 
 -- a root slot has the primitive type of its task

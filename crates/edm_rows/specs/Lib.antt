@@ -1,4 +1,5 @@
 pub use Rattle.edm_row_plans.specs.Plans
+pub mod Alike
 pub mod HeldSchema
 pub mod RowItems
 pub mod RowLayout

@@ -6,7 +6,7 @@ use Rattle.csdl_schema.specs.SchemaModel.{properties_at, type_name_at}
 use Rattle.edm_values.specs.SieveMeaning.{Rejects}
 use Rattle.edm_values.specs.Val.{FieldVal, Val, fields, present}
 use Rattle.edm_values.specs.declared.sieve.Sieve.{Sieve}
-use Rattle.edm_rows.specs.RowReading.{Names}
+use Rattle.edm_rows.specs.Alike.{AreAlike, Names}
 use Rattle.edm_entities.specs.Fits.{Fits}
 use Rattle.edm_entities.specs.Row.{Row, slots_for, value_of}
 use Rattle.edm_rows.specs.RowsOfType.{RowsOfType, names_unkept, row_held}
@@ -14,13 +14,11 @@ use Rattle.edm_rows.specs.declared.type_rows.ItemReading.{ItemReading}
 use Rattle.edm_rows.specs.declared.type_rows.ItemReading.TheVariants.{LeftOut, Row as IsRow, Unread}
 use Rattle.json_room.specs.ValueStands.{ValueStands}
 
--- the JSON fits some record, and the row has what that has under each name that is not passed
+-- the JSON fits some value, to which the row's is alike but for what is passed over
 pub record IsJsonBut (json : Data) (Passed : Names) (row : Row) : Type 0 where
-  pub whole : List ℕ → FieldVal
-  pub fits : Fits (slots_for row) (type_name_at row.schema row.type_id) json (fields whole)
-  pub kept : List ℕ → FieldVal
-  pub value_is : value_of row ≡ fields kept
-  pub agrees : (name : List ℕ) → ¬ Passed name → kept name ≡ whole name
+  pub whole : Val
+  pub fits : Fits (slots_for row) (type_name_at row.schema row.type_id) json whole
+  pub alike : AreAlike Passed (value_of row) whole
 
 -- the JSON fits some record, of which a value is rejected by its slot's sieve
 pub record IsJsonLeftOut (json : Data) (rows : RowsOfType) : Type 0 where

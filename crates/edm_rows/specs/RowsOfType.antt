@@ -13,14 +13,19 @@ use Rattle.edm_rows.specs.RowReading.{Names}
 use Rattle.edm_entities.specs.Fits.{Fits}
 use Rattle.edm_entities.specs.Row.{Row, slots_for}
 
--- the type, what is expanded in its rows and whether that is all that the plan was made for, by slot whether a value is
--- kept and its sieve, and the row that is filled
+-- by slot of a type, whether a value is kept
+pub record TypeMarks : Type 0 where
+  pub type_id : ℕ
+  pub kept : List Bool
+
+-- the type, what is expanded in its rows and whether that is all that the plan was made for, the marks of each type in
+-- it, its sieves by slot, and the row that is filled
 pub record RowsOfType : Type 0 where
   pub schema : SchemaModel
   pub type_id : ℕ
   pub expansion : List StepModel
   pub is_whole : Bool
-  pub kept : List Bool
+  pub kept : List TypeMarks
   pub sieves : List Sieve
   pub is_ready : Bool
   pub value : Value
@@ -29,11 +34,20 @@ pub record RowsOfType : Type 0 where
 abbrev pub row_held : RowsOfType → Row
 row_held rows = record { schema = rows.schema; type_id = rows.type_id; expansion = rows.expansion; value = rows.value }
 
--- the names of the properties whose values are not kept
+-- the names of a type's properties whose values are not kept
+abbrev pub names_unmarked : SchemaModel → TypeMarks → Names
+names_unmarked schema marks name =
+    (slot : ℕ) × (slice_get marks.kept slot ≡ Some false)
+    × (slice_get (map (λ p. p.name) (properties_at schema marks.type_id)) slot ≡ Some name)
+
+-- the same of these types
+abbrev pub names_unkept_by : SchemaModel → List TypeMarks → Names
+names_unkept_by schema types name =
+    (place : ℕ) × (marks : TypeMarks) × (slice_get types place ≡ Some marks) × names_unmarked schema marks name
+
+-- those of all types of the rows
 abbrev pub names_unkept : RowsOfType → Names
-names_unkept rows name =
-    (slot : ℕ) × (slice_get rows.kept slot ≡ Some false)
-    × (slice_get (map (λ p. p.name) (properties_at rows.schema rows.type_id)) slot ≡ Some name)
+names_unkept rows = names_unkept_by rows.schema rows.kept
 
 -- a sieve is put where all values pass
 abbrev pub sieve_put : Sieve → Sieve → Sieve

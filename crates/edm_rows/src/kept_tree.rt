@@ -2,8 +2,8 @@
 ghost use Rattle.std.specs.Prelude.{◌≡◌, ◌<◌, ◌≤◌, ℕ, length, true, IfSome, IsTrue};
 ghost use Rattle.json.specs.Token.{null};
 ghost use Rattle.json_room.specs.Lexemes.{StandsTo};
-ghost use Rattle.edm_rows.specs.private.Filled.{FillsItems, FillsMembers, FillsValue};
-ghost use Rattle.edm_rows.specs.private.Filled.{FilledRead, FilledUpTo};
+ghost use Rattle.edm_rows.specs.private.Filled.{FillsItems, FillsMembers, FillsSlot, FillsValue, IsAmongTypes};
+ghost use Rattle.edm_rows.specs.private.Filled.{FilledRead, FilledUpTo, TakesFiller};
 ghost use Rattle.json_room.specs.ValueStands.{ValueStands};
 ghost use Rattle.edm_rows.specs.private.Held.{IsSingle};
 ghost use Rattle.edm_rows.specs.private.RowSlots.{IsSlotOf, IsTaskOf, IsTypeOf};
@@ -18,12 +18,12 @@ use super::kept_leaf::{
 use super::kept_value::Progress;
 use super::known_texts::Cache;
 use super::members::{After, Found, after_member, next_member};
-use super::passed_value::ReadContext;
+use super::passed_value::{ReadContext, value_end};
 use super::row_types::{RowSlot, RowType, Task};
 use edm_values::{Value, take_few};
 use json_room::{RoomyLine, any_value_end, null_end, past_blanks};
 use seen_slots::SeenSlots;
-use spare_values::{fit_count, list_in, record_in};
+use spare_values::{Filler, fit_count, list_in, record_in};
 
 /// Fills the value of a slot, or an item of it, that stands there; the offset after it.
 #[inline(always)]
@@ -160,7 +160,7 @@ fn fill_unseen(
     ensures null { value.new ≡ Value.Null }
     ensures depth { cache.new.depth ≡ cache.old.depth }
 {
-    cache.spares.put_null(slot.spare(), value);
+    cache.spares.put_null(slot.spare, value);
     any_value_end(line, place, cache.depth, &mut cache.decoded)
 }
 
@@ -180,7 +180,7 @@ fn fill_null(
     if !slot.is_nullable {
         return None;
     }
-    cache.spares.put_null(slot.spare(), value);
+    cache.spares.put_null(slot.spare, value);
     null_end(line, place)
 }
 
@@ -232,7 +232,7 @@ fn fill_record<M: SeenSlots>(
     if context.line.byte(place) != b'{' || cache.depth == 0 {
         return None;
     }
-    cache.spares.begin_record(slot.spare(), value);
+    cache.spares.begin_record(slot.spare, value);
     let Some(values) = record_in(value) else {
         return None;
     };
@@ -247,7 +247,7 @@ fn fill_record<M: SeenSlots>(
     cache.depth += 1;
     match take_few(cache.alloc, values) {
         Ok(Some(held)) => {
-            cache.spares.put_few(slot.spare(), held, value);
+            cache.spares.put_few(slot.spare, held, value);
             end
         }
         Ok(None) => end,
@@ -307,12 +307,12 @@ fn fill_items<M: SeenSlots>(
     let line = &context.line;
     let mut place = past_blanks(line, from);
     if line.byte(place) == b']' {
-        cache.spares.cut(slot.spare(), items, 0);
+        cache.spares.cut(slot.spare, items, 0);
         return Some(place + 1);
     }
     let mut count = 0;
     'items: loop {
-        if !cache.spares.has_item(slot.spare(), items, count) {
+        if !cache.spares.has_item(slot.spare, items, count) {
             return None;
         }
         let Some(end) = fill_value::<M>(cache, context, slot, slot.item, place, &mut items[count])
@@ -324,7 +324,7 @@ fn fill_items<M: SeenSlots>(
         match line.byte(place) {
             b',' => place = past_blanks(line, place + 1),
             b']' => {
-                cache.spares.cut(slot.spare(), items, count);
+                cache.spares.cut(slot.spare, items, count);
                 return Some(place + 1);
             }
             _ => return None,
@@ -346,6 +346,7 @@ pub(crate) fn fill_members<M: SeenSlots>(
     requires rooms { HaveRoom M.most context.now }
     requires plan { IsTypeOf context.now.schema.now context.now.plan.now.expansion context.now.plan.now.plans.items
         plan.now }
+    requires among { IsAmongTypes context.now plan.now }
     requires room { length plan.now.slots.items ≤ M.most }
     requires within { from ≤ length context.now.line }
     ensures filled { IfSome result (FillsMembers context.now plan.now cache.old.depth values.new.items from) }
@@ -404,6 +405,7 @@ fn fill_found<M: SeenSlots>(
     requires rooms { HaveRoom M.most context.now }
     requires plan { IsTypeOf context.now.schema.now context.now.plan.now.expansion context.now.plan.now.plans.items
         plan.now }
+    requires among { IsAmongTypes context.now plan.now }
     requires room { length plan.now.slots.items ≤ M.most }
     requires found { FindsMember context.now plan.now cache.old.depth so_far.old.place found }
     requires order { so_far.old.order < 1024 }
@@ -421,18 +423,62 @@ fn fill_found<M: SeenSlots>(
         so_far.place = found.place;
         return true;
     };
-    match fill_value::<M>(
-        cache,
-        context,
-        slot,
-        slot.task,
-        found.place,
-        &mut values[slot.index],
-    ) {
+    match fill_slot::<M>(cache, context, slot, found.place, &mut values[slot.index]) {
         Some(end) => {
             so_far.read_slot(slot, end);
             true
         }
         None => false,
+    }
+}
+
+/// Fills the value of a slot. Where it is not kept, and another one without heap may stand there, its value is passed.
+#[inline(always)]
+#[cycle(fill)]
+fn fill_slot<M: SeenSlots>(
+    cache: &mut Cache,
+    context: &ReadContext<'_>,
+    slot: &RowSlot,
+    place: usize,
+    value: &mut Value,
+) -> Option<usize>
+    requires context { IsContext context.now }
+    requires rooms { HaveRoom M.most context.now }
+    requires slot { IsSlotOf context.now.plan.now.plans.items slot.now }
+    requires task { IsTaskOf slot.now slot.now.task }
+    requires within { place ≤ length context.now.line }
+    ensures filled { IfSome result (FillsSlot context.now slot.now cache.old.depth value.new place) }
+    ensures depth { cache.new.depth ≡ cache.old.depth }
+{
+    match filler_of(slot) {
+        Some(filler) => {
+            cache.spares.put_filler(filler, slot.spare, value);
+            value_end::<M>(cache, context, slot, slot.task, place)
+        }
+        None => fill_value::<M>(cache, context, slot, slot.task, place, value),
+    }
+}
+
+/// What stands in a slot that is not kept, if a value without heap may.
+#[inline(always)]
+fn filler_of(slot: &RowSlot) -> Option<Filler>
+    ensures { IfSome result (TakesFiller slot.now) }
+{
+    if slot.is_kept {
+        return None;
+    }
+    match slot.task {
+        Task::Any => None,
+        Task::Items => Some(Filler::NoItems),
+        Task::Text => if slot.is_nullable {
+            Some(Filler::Null)
+        } else {
+            Some(Filler::EmptyText)
+        },
+        _ => if slot.is_nullable {
+            Some(Filler::Null)
+        } else {
+            None
+        },
     }
 }

@@ -7,6 +7,7 @@ ghost use Rattle.edm_rows.specs.private.RowSlots.{IsFreshType};
 
 use super::held_schema::HeldSchema;
 use super::row_types::{RowType, row_types};
+use super::slot_marks::keep_types;
 use csdl_schema::{Expansion, Schema};
 use edm_row_plans::{RowPlan, plan_at};
 use std::alloc::Global;
@@ -42,7 +43,8 @@ impl<'s> RowLayout<'s> {
         ensures expansion { result.expansion ≡ plan.expansion }
         ensures whole { result.is_whole ≡ plan.is_whole }
     {
-        let types = types_of(alloc, schema.schema(), &plan);
+        let mut types = types_of(alloc, schema.schema(), &plan);
+        keep_types(&mut types);
         RowLayout {
             schema,
             types,

@@ -69,20 +69,10 @@ pub(crate) struct RowSlot {
     pub(crate) node: Option<usize>,
     /// The index of its records' plan.
     pub(crate) record: usize,
+    /// What its values, or items, may be filled again from.
+    pub(crate) spare: Spare,
     pub(crate) prim: Prim,
     pub(crate) member_of: Option<EnumId>,
-}
-
-impl RowSlot {
-    /// What its values, or items, may be filled again from.
-    #[inline(always)]
-    pub(crate) fn spare(&self) -> Spare {
-        match self.item {
-            Task::Record => Spare::Record(self.record),
-            Task::Text => Spare::Text,
-            _ => Spare::Other,
-        }
-    }
 }
 
 /// A type with its slots in order.
@@ -235,6 +225,11 @@ fn row_slot(
     let Some(key) = SpelledKey::new(alloc, name) else {
         return None;
     };
+    let spare = match kind.task {
+        Task::Record => Spare::Record(plan.record),
+        Task::Text => Spare::Text,
+        _ => Spare::Other,
+    };
     Some(RowSlot {
         key,
         task: task_as(kind.task, plan.property.many),
@@ -248,6 +243,7 @@ fn row_slot(
         order,
         node: plan.node,
         record: plan.record,
+        spare,
         prim: kind.prim,
         member_of: kind.member_of,
     })

@@ -1,16 +1,16 @@
 //! Which slots of a type are kept, and their sieves.
-ghost use Rattle.std.specs.Prelude.{◌≡◌, ◌≢◌, ◌↔◌, ℕ, List, Some, true, false, length, slice_get, slice_set};
+ghost use Rattle.std.specs.Prelude.{◌≡◌, ◌≢◌, ◌↔◌, ℕ, List, Some, true, false, IfSome, length, map, slice_get, slice_set};
 ghost use Rattle.csdl_schema.specs.SchemaModel.{HasDistinctNames, properties_at};
 ghost use Rattle.edm_rows.specs.RowsOfType.{sieve_put, sifted};
-ghost use Rattle.edm_rows.specs.private.HeldRows.{IsSameType, keeps_of, sieves_of};
-ghost use Rattle.edm_rows.specs.private.KeptRows.{names_unkept_in};
+ghost use Rattle.edm_rows.specs.private.HeldRows.{AreKept, AreSameTypes, IsSameType, keeps_of, sieves_of};
+ghost use Rattle.edm_rows.specs.private.KeptRows.{names_unkept_in, names_unkept_of};
 
 use super::row_types::{RowSlot, RowType};
 use csdl_schema::Schema;
 use edm_values::Sieve;
 
 /// Keeps the values of the property of that name, if the type has one.
-pub(crate) fn keep_name(of: &mut RowType, schema: &Schema, name: &str)
+fn keep_name(of: &mut RowType, schema: &Schema, name: &str)
     requires { HasDistinctNames (properties_at schema.now of.old.type_id) }
     ensures same { IsSameType of.old of.new }
     ensures slots { length (keeps_of of.new) ≡ length (keeps_of of.old) }
@@ -38,7 +38,7 @@ fn keep_slot(of: &mut RowType, slot: usize)
 }
 
 /// Keeps the values of all slots.
-pub(crate) fn keep_slots(of: &mut RowType)
+fn keep_slots(of: &mut RowType)
     ensures same { IsSameType of.old of.new }
     ensures slots { length (keeps_of of.new) ≡ length (keeps_of of.old) }
     ensures sieves { sieves_of of.new ≡ sieves_of of.old }
@@ -46,6 +46,32 @@ pub(crate) fn keep_slots(of: &mut RowType)
 {
     for slot in 0..of.slots.len() {
         keep_slot(of, slot);
+    }
+}
+
+/// Keeps the values of the properties of that name, in each of these types.
+pub(crate) fn keep_name_in(types: &mut Vec<RowType>, schema: &Schema, name: &str)
+    requires { (place : ℕ) → IfSome (slice_get types.old.items place)
+        (λ t. HasDistinctNames (properties_at schema.now t.type_id)) }
+    ensures same { AreSameTypes types.old.items types.new.items }
+    ensures sieves { map sieves_of types.new.items ≡ map sieves_of types.old.items }
+    ensures named { ¬ names_unkept_of schema.now types.new.items name.now }
+    ensures others { (other : List ℕ) → other ≢ name.now
+        → names_unkept_of schema.now types.new.items other ↔ names_unkept_of schema.now types.old.items other }
+{
+    for place in 0..types.len() {
+        keep_name(&mut types[place], schema, name);
+    }
+}
+
+/// Keeps the values of all slots of these types.
+pub(crate) fn keep_types(types: &mut Vec<RowType>)
+    ensures same { AreSameTypes types.old.items types.new.items }
+    ensures sieves { map sieves_of types.new.items ≡ map sieves_of types.old.items }
+    ensures kept { AreKept types.new.items }
+{
+    for place in 0..types.len() {
+        keep_slots(&mut types[place]);
     }
 }
 

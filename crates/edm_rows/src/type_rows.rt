@@ -23,7 +23,7 @@ use super::layout_reader::fill_row;
 use super::passed_value::ReadContext;
 use super::row_layout::types_of;
 use super::row_types::{DEPTH, RowType};
-use super::slot_marks::{keep_name, keep_slots, sift_slot};
+use super::slot_marks::{keep_name_in, keep_types, sift_slot};
 use csdl_schema::Schema;
 use edm_entities::Entity;
 use edm_row_plans::RowPlan;
@@ -94,7 +94,7 @@ impl<'s> TypeRows<'s> {
         ensures type_id { result.type_id ≡ plan.type_id }
         ensures expansion { result.expansion ≡ plan.expansion }
         ensures whole { result.is_whole ≡ plan.is_whole }
-        ensures none_kept { All (λ kept. kept ≡ false) result.kept }
+        ensures none_kept { All (λ marks. All (λ kept. kept ≡ false) marks.kept) result.kept }
         ensures all_pass { All (λ sieve. sieve ≡ Sieve.All) result.sieves }
         ensures no_row { result.is_ready ≡ false }
     {
@@ -110,16 +110,14 @@ impl<'s> TypeRows<'s> {
         }
     }
 
-    /// From here on the values of the property of that name are kept, if there is one.
+    /// From here on the values of properties of that name are kept, in nested records too.
     pub fn keep_named(&mut self, name: &str)
         ensures same { IsSameButKept self.old self.new }
         ensures named { ¬ names_unkept self.new name.now }
         ensures others { (other : List ℕ) → other ≢ name.now
             → names_unkept self.new other ↔ names_unkept self.old other }
     {
-        if self.types.len() > 0 {
-            keep_name(&mut self.types[0], self.schema.schema(), name);
-        }
+        keep_name_in(&mut self.types, self.schema.schema(), name);
     }
 
     /// From here on the values of all properties are kept.
@@ -127,9 +125,7 @@ impl<'s> TypeRows<'s> {
         ensures same { IsSameButKept self.old self.new }
         ensures kept { (name : List ℕ) → ¬ names_unkept self.new name }
     {
-        if self.types.len() > 0 {
-            keep_slots(&mut self.types[0]);
-        }
+        keep_types(&mut self.types);
     }
 
     /// From here on rows are left out of which that slot's value is rejected, unless the slot has a sieve.

@@ -1,8 +1,10 @@
+pub mod AlikeCosts
+pub mod AlikeMeans
 pub mod BlankLines
 pub mod BoundedLines
 pub mod BoundedValues
-pub mod CostsAlone
 pub mod CostsBut
+pub mod Faces
 pub mod ItemsInPlace
 pub mod NamesAlone
 pub mod OneJudgment

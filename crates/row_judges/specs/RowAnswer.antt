@@ -1,6 +1,6 @@
 -- What is reported about a row that is judged by itself (OData JSON Format 4.01, sections 4.5 and 7; OData URL
 -- Conventions 4.01, section 5.1.1).
-use Rattle.std.specs.Prelude.{◌≡◌, ◌≢◌, ◌⊎◌, ◌<◌, ℕ, List, [], length, slice_get, unwrap_or, Bool, true, false, IfSome, Option, Some, None, Result, Ok, Err, IsTrue, IsFalse, if◌then◌else◌}
+use Rattle.std.specs.Prelude.{◌≡◌, ◌<◌, ℕ, List, [], length, slice_get, unwrap_or, Bool, true, false, Option, Some, None, Result, Ok, Err, IsTrue, IsFalse, if◌then◌else◌}
 use Rattle.serde_json.specs.Data.{Data}
 use Rattle.edm_values.specs.MomentParts.{MomentParts}
 use Rattle.csdl_schema.specs.JsonText.{IsJsonOf}
@@ -9,7 +9,6 @@ use Rattle.edm_entities.specs.declared.row_fault.RowFault.{RowFault}
 use Rattle.edm_rows.specs.RowLayout.{LayoutOfRows}
 use Rattle.line_filter.specs.declared.judge.Judgment.{Judgment}
 use Rattle.odata_checked_filter.specs.Filter.{Filter}
-use Rattle.odata_checked_filter.specs.declared.checked_node.NodeKind.{NodeKind}
 use Rattle.odata_filter_operations.specs.Outcome.{gives}
 use Rattle.odata_filter_operations.specs.declared.eval_fault.EvalFault.{EvalFault}
 use Rattle.odata_eval.specs.VerdictView.{verdict_val}
@@ -18,14 +17,11 @@ use Rattle.row_judges.specs.RowJudgment.{HasOutcome, JudgesRow}
 use Rattle.row_judges.specs.RowsOnce.{AreSameJudgment}
 use Rattle.row_judges.specs.declared.bad_row.BadRow.{BadRow}
 
--- the filter's list has none of these names at a node; where there are some, nothing stands for the whole row
+-- the filter's list has none of these names at a node
 pub record PassesNone (filter : Filter) (Passed : Names) : Type 0 where
   pub unnamed :
       (place : ℕ) → place < length filter.list.nodes → ¬ Passed (unwrap_or (slice_get filter.list.texts place) [])
   pub spelled : ¬ Passed []
-  pub no_row :
-      ((name : List ℕ) → ¬ Passed name)
-      ⊎ ((place : ℕ) → IfSome (slice_get filter.list.nodes place) (λ node. node.kind ≢ NodeKind.It))
 
 -- the layout is of the filter's schema and type, and a whole one has that expanded which the filter needs
 pub record IsLayoutOfFilter (filter : Filter) (layout : LayoutOfRows) : Type 0 where

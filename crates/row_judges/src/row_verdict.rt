@@ -1,8 +1,7 @@
-ghost use Rattle.std.specs.Prelude.{◌≡◌, ◌≢◌, ◌⊎◌, ℕ, [], slice_get, false, IfSome, IsTrue};
+ghost use Rattle.std.specs.Prelude.{◌≡◌, ◌⊎◌, [], false, IsTrue};
 ghost use Rattle.csdl_schema.specs.ExpansionView.{paths_in};
 ghost use Rattle.csdl_schema.specs.PathSet.{PropertyPath};
 ghost use Rattle.edm_row_plans.specs.Plans.{IsPlanOf};
-ghost use Rattle.odata_checked_filter.specs.declared.checked_node.NodeKind.{NodeKind as NodeKindModel};
 ghost use Rattle.edm_rows.specs.HeldSchema.{schema_in};
 ghost use Rattle.row_judges.specs.RowAnswer.{IsLayoutOfFilter, ReportsRow};
 
@@ -11,7 +10,6 @@ use crate::row_judge::{RowJudge, reported};
 use edm_row_plans::RowPlan;
 use edm_rows::{HeldSchema, LayoutReader, RowLayout};
 use edm_values::Moment;
-use odata_checked_filter::NodeKind;
 use odata_eval::Verdict;
 use odata_typing::Checked;
 use std::alloc::Global;
@@ -31,31 +29,6 @@ pub(crate) fn plan_of(alloc: Global, checked: &Checked<'_>) -> RowPlan
         checked.filtered_type(),
         checked.expansion(),
     )
-}
-
-/// Whether a node of that kind is the row itself.
-fn is_row(kind: NodeKind) -> bool
-    ensures { result ≡ false → kind ≢ NodeKindModel.It }
-{
-    match kind {
-        NodeKind::It => true,
-        _ => false,
-    }
-}
-
-/// Whether the filter names the row itself.
-pub(crate) fn names_whole_row(checked: &Checked<'_>) -> bool
-    ensures { result ≡ false → (place : ℕ)
-        → IfSome (slice_get checked.now.list.nodes place) (λ node. node.kind ≢ NodeKindModel.It) }
-{
-    let nodes = checked.nodes();
-    for place in 0..nodes.len() {
-        let node = &nodes[place];
-        if is_row(node.kind) {
-            return true;
-        }
-    }
-    false
 }
 
 /// Returns the layout by which the filter's rows are read. It has what the filter needs of navigation, and borrows or

@@ -17,7 +17,7 @@ ghost use Rattle.row_judges.specs.private.ValueAnswer.{ReportsValue, answer_repo
 
 use crate::bad_row::BadRow;
 use crate::row_judge::{RowJudge, judgment_at_once, reported};
-use crate::row_verdict::{names_whole_row, plan_of};
+use crate::row_verdict::plan_of;
 use edm_entities::what_fits_has_its_type;
 use edm_rows::{HeldSchema, Reading, TypeRows};
 use json_room::{copy_with_room, has_room};
@@ -48,10 +48,6 @@ pub(crate) fn keep_filtered(rows: &mut TypeRows<'_>, checked: &Checked<'_>)
     ensures names { KeepsNames checked.now rows.new }
     ensures sieves { rows.new.sieves ≡ rows.old.sieves }
 {
-    if names_whole_row(checked) {
-        rows.keep_all();
-        return;
-    }
     rows.keep_named("");
     keep_names(rows, checked);
 }

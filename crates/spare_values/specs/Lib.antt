@@ -1,2 +1,3 @@
+pub mod Fillers
 pub mod StoredTexts
 pub mod Written

@@ -6,6 +6,6 @@ mod spares;
 mod stored_texts;
 mod written;
 
-pub use spares::{Spare, Spares};
+pub use spares::{Filler, Spare, Spares};
 pub use stored_texts::{is_filled_again, overwrite_text, write_text};
 pub use written::{fit_count, list_in, put_number, put_truth, record_in};

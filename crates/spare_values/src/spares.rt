@@ -1,5 +1,6 @@
 //! Values that no row holds any more, to be filled again.
 ghost use Rattle.std.specs.Prelude.{◌≡◌, ◌<◌, ◌≤◌, ℕ, length, take, IsTrue};
+ghost use Rattle.spare_values.specs.Fillers.{HoldsFiller, HoldsNoItems};
 
 use super::stored_texts::{TEXT_ROOM, is_filled_again};
 use edm_values::Value;
@@ -24,6 +25,14 @@ pub enum Spare {
     Record(usize),
     Text,
     Other,
+}
+
+/// A value without heap that stands where another one is not wanted.
+#[derive(Clone, Copy, Drop)]
+pub enum Filler {
+    NoItems,
+    Null,
+    EmptyText,
 }
 
 /// Records and texts to be filled again. What they hold is irrelevant.
@@ -111,6 +120,28 @@ impl Spares {
     {
         let old = mem::replace(value, Value::Null);
         self.keep(spare, old);
+    }
+
+    /// Puts a value without heap into a slot; the parts of its value are stored.
+    #[inline(never)]
+    pub fn put_filler(&mut self, filler: Filler, spare: Spare, value: &mut Value)
+        ensures { HoldsFiller filler value.new }
+    {
+        match filler {
+            Filler::NoItems => self.put_no_items(spare, value),
+            Filler::Null => self.put_null(spare, value),
+            Filler::EmptyText => *value = Value::Text(String::new(self.alloc)),
+        }
+    }
+
+    /// Puts a list without items.
+    fn put_no_items(&mut self, spare: Spare, value: &mut Value)
+        ensures { HoldsNoItems value.new }
+    {
+        match value {
+            Value::List(items) => self.cut(spare, items, 0),
+            _ => *value = Value::List(Vec::new(self.alloc)),
+        }
     }
 
     /// Makes sure that a slot holds a record. It has no clause: `record_in` says what the slot holds.

@@ -2,7 +2,7 @@
 use Rattle.std.proofs.Common.{◌≡◌, ℕ, List, slice_get, Bool, false, Option, Some, None, IfSome, refl, sym, subst}
 use Rattle.serde_json.specs.Data.{Data, array, object, Items, no_items as no_json, item as json_item, Members}
 use Rattle.serde_json.specs.Find.{get}
-use Rattle.edm_values.specs.Val.{fields, items, no_items, item}
+use Rattle.edm_values.specs.Val.{Val, fields, items, no_items, item}
 use Rattle.csdl_schema.specs.ExpansionView.{StepModel}
 use Rattle.csdl_schema.specs.ExprType.{ExprType, single, collection, SingleType, structured}
 use Rattle.csdl_schema.specs.PropertyView.{IsReadAs, property_type}
@@ -12,6 +12,7 @@ use Rattle.edm_entities.specs.Fits.{takes_null, FitsFound, FitsNavigation, FitsT
 use Rattle.edm_row_plans.specs.Plans.{IsSlotPlan}
 use Rattle.edm_entities.specs.Row.{ValAtType, field_by_name}
 use Rattle.edm_row_plans.specs.Expanded.{slots_at}
+use Rattle.edm_rows.specs.private.Held.{IsSeenOf}
 use Rattle.edm_rows.specs.private.Passed.{FitSomeItems, FitSomeSlots, FitsSeen, FitsSome, FitsSomeHowever, FitsSomeProperty, every_name}
 use Rattle.json_room.specs.private.ItemTokens.{append_items}
 use Rattle.edm_row_plans.specs.declared.type_plan.SlotPlan.{SlotPlan}
@@ -27,34 +28,37 @@ use Rattle.edm_entities.proofs.SlotLemmas.FoundWalk.{items_null}
 
 -- ---- properties
 
--- a value of a property that is looked at
+-- what is seen of a property that is looked at
+pub property_as : (slots : Slots) (nullable : Bool) (type : PropertyType) (wanted : ExprType) (takes inner : Bool) (json : Data) (v : Val) → IsLookedAt slots type wanted → takes ≡ takes_null wanted nullable
+    → inner ≡ items_null type nullable → IsSeenOf slots takes inner wanted v json → FitsSeen slots nullable type (Some json) (λ _ _. v)
+property_as slots nullable (declared type) wanted takes inner json v is same_takes same_items fits =
+    subst (λ (t : ExprType). FitsFound (Some json) (takes_null t nullable) v (λ there. FitsType slots nullable t there v)) (sym is)
+    (subst (λ (b : Bool). FitsFound (Some json) (takes_null wanted nullable) v (λ there. FitsType slots b wanted there v)) same_items
+    (subst (λ (b : Bool). FitsFound (Some json) b v (λ there. FitsType slots inner wanted there v)) same_takes fits))
+property_as slots nullable opaque wanted takes inner json v is same_takes same_items fits = absurd is
+property_as slots nullable (navigation None) wanted takes inner json v is same_takes same_items fits = absurd is
+property_as slots nullable (navigation (Some type)) wanted takes inner json v is same_takes same_items fits =
+    subst (λ (b : Bool). FitsNavigation b (Some json) (takes_null type nullable) v (λ there. FitsType slots false type there v)) (sym is.0)
+    (subst (λ (t : ExprType). FitsFound (Some json) (takes_null t nullable) v (λ there. FitsType slots false t there v)) (sym is.1)
+    (subst (λ (b : Bool). FitsFound (Some json) (takes_null wanted nullable) v (λ there. FitsType slots b wanted there v)) same_items
+    (subst (λ (b : Bool). FitsFound (Some json) b v (λ there. FitsType slots inner wanted there v)) same_takes fits)))
+
+pub single_as : (slots : Slots) (nullable : Bool) (type : PropertyType) (wanted : SingleType) (json : Data) (v : Val) → IsLookedAt slots type (single wanted)
+    → IsSeenOf slots nullable nullable (single wanted) v json → FitsSeen slots nullable type (Some json) (λ _ _. v)
+single_as slots nullable type wanted json v seen fits =
+    let inner = items_null type nullable in
+    property_as slots nullable type (single wanted) nullable inner json v seen refl refl
+    (found_by json nullable v (λ there. FitsType slots nullable (single wanted) there v) (λ there. FitsType slots inner (single wanted) there v)
+    (λ there fits_there. single_fits slots nullable inner wanted there v fits_there) fits)
+
+-- some value of it
 pub property_some : (slots : Slots) (nullable : Bool) (type : PropertyType) (wanted : ExprType) (takes inner : Bool) (json : Data) → IsLookedAt slots type wanted → takes ≡ takes_null wanted nullable
     → inner ≡ items_null type nullable → FitsSome slots takes inner wanted json → FitsSomeProperty slots nullable type (Some json)
-property_some slots nullable (declared type) wanted takes inner json is same_takes same_items (v, fits) = (
-  λ _ _. v,
-  subst (λ (t : ExprType). FitsFound (Some json) (takes_null t nullable) v (λ there. FitsType slots nullable t there v)) (sym is)
-      (subst (λ (b : Bool). FitsFound (Some json) (takes_null wanted nullable) v (λ there. FitsType slots b wanted there v)) same_items
-      (subst (λ (b : Bool). FitsFound (Some json) b v (λ there. FitsType slots inner wanted there v)) same_takes fits)),
-)
-property_some slots nullable opaque wanted takes inner json is same_takes same_items some = absurd is
-property_some slots nullable (navigation None) wanted takes inner json is same_takes same_items some = absurd is
-property_some slots nullable (navigation (Some type)) wanted takes inner json is same_takes same_items (v, fits) = (
-  λ _ _. v,
-  subst (λ (b : Bool). FitsNavigation b (Some json) (takes_null type nullable) v (λ there. FitsType slots false type there v)) (sym is.0)
-      (subst (λ (t : ExprType). FitsFound (Some json) (takes_null t nullable) v (λ there. FitsType slots false t there v)) (sym is.1)
-      (subst (λ (b : Bool). FitsFound (Some json) (takes_null wanted nullable) v (λ there. FitsType slots b wanted there v)) same_items
-      (subst (λ (b : Bool). FitsFound (Some json) b v (λ there. FitsType slots inner wanted there v)) same_takes fits))),
-)
+property_some slots nullable type wanted takes inner json is same_takes same_items (v, fits) = (λ _ _. v, property_as slots nullable type wanted takes inner json v is same_takes same_items fits)
 
 pub single_some : (slots : Slots) (nullable : Bool) (type : PropertyType) (wanted : SingleType) (json : Data) → IsLookedAt slots type (single wanted)
     → FitsSome slots nullable nullable (single wanted) json → FitsSomeProperty slots nullable type (Some json)
-single_some slots nullable type wanted json seen (v, fits) =
-    let inner = items_null type nullable in
-    property_some slots nullable type (single wanted) nullable inner json seen refl refl (
-      v,
-      found_by json nullable v (λ there. FitsType slots nullable (single wanted) there v) (λ there. FitsType slots inner (single wanted) there v)
-          (λ there fits_there. single_fits slots nullable inner wanted there v fits_there) fits,
-    )
+single_some slots nullable type wanted json seen (v, fits) = (λ _ _. v, single_as slots nullable type wanted json v seen fits)
 
 -- ---- arrays and objects
 

@@ -9,9 +9,10 @@ use Rattle.serde_json.proofs.Views.{get_member-put, get_member-put_other}
 use Rattle.edm_values.specs.declared.value.Value.{Value, Null}
 use Rattle.csdl_schema.specs.SchemaModel.{PropertyModel, Slots, HasDistinctNames, slots_behind}
 use Rattle.edm_entities.specs.Fits.{FitsProperty, FitsRecord}
-use Rattle.edm_entities.specs.Row.{ValAtType, field_by_name, val_of}
-use Rattle.edm_rows.specs.RowReading.{Names}
-use Rattle.edm_rows.specs.private.Passed.{MayBeAbsent, FitsSeen, FitsSlotBut, FitsSoFarBut, SlotsSoFarBut}
+use Rattle.edm_entities.specs.Row.{ValAtType, field_by_name, field_of, val_of}
+use Rattle.edm_values.specs.Val.{FieldVal}
+use Rattle.edm_rows.specs.Alike.{FieldsAlike, Names, both_absent}
+use Rattle.edm_rows.specs.private.Passed.{MayBeAbsent, FitsSeen, FitsSlotBut, FitsSoFarBut, SeenAlike, SlotsSoFarBut}
 use Rattle.edm_rows.specs.private.SlotsSoFar.{HoldEachSoFar}
 use Rattle.edm_entities.specs.private.Walk.{HoldEach}
 use Rattle.edm_rows.proofs.RowLemmas.SlotsRead.{apart, found_in}
@@ -55,7 +56,7 @@ module _ (slots : Slots) (Passed : Names) (found : Members) (name : List ℕ) (j
 
   -- what fits what was found fills its slot
   pub passed_set : (ps : List PropertyModel) (filled : List Bool) (values : List Value) (n : ℕ) (v : Value) (seen : ValAtType) → HasDistinctNames ps → slice_get (map (λ p. p.name) ps) n ≡ Some name
-      → IfSome (slice_get ps n) (λ p. FitsSeen (slots_behind slots p.name) p.nullable p.type_of (Some json) seen) → Passed name ⊎ (seen ≡ val_of v)
+      → IfSome (slice_get ps n) (λ p. FitsSeen (slots_behind slots p.name) p.nullable p.type_of (Some json) seen) → Passed name ⊎ IfSome (slice_get ps n) (λ p. SeenAlike slots Passed p.type_of (val_of v) seen)
       → HoldEachSoFar (FitsSoFarBut slots Passed (found_in found)) ps filled values → HoldEachSoFar (FitsSoFarBut slots Passed (found_in (put name json found))) ps (slice_set filled n true) (slice_set values n v)
   passed_set [] filled values n v seen distinct at fits kept hold = absurd (cc)
   passed_set (p ∷ ps) [] values n v seen distinct at fits kept hold = absurd hold
@@ -64,7 +65,7 @@ module _ (slots : Slots) (Passed : Names) (found : Members) (name : List ℕ) (j
       let named : p.name ≡ name = cc in
       let there : Some json ≡ get_member p.name (put name json found) = sym (ap (λ (s : List ℕ). get_member s (put name json found)) named ∙ get_member-put name json found) in
       let others = subst (λ (s : List ℕ). AllByRecursion (λ q. q.name ≢ s) ps) named distinct.0 in (
-        (seen, subst (λ (o : Option Data). FitsSeen (slots_behind slots p.name) p.nullable p.type_of o seen) there fits, subst (λ (s : List ℕ). Passed s ⊎ (seen ≡ val_of v)) (sym named) kept),
+        (seen, subst (λ (o : Option Data). FitsSeen (slots_behind slots p.name) p.nullable p.type_of o seen) there fits, subst (λ (s : List ℕ). Passed s ⊎ SeenAlike slots Passed p.type_of (val_of v) seen) (sym named) kept),
         others_passed ps filled values others hold.1,
       )
   passed_set (p ∷ ps) (b ∷ filled) (w ∷ values) (suc n) v seen distinct at fits kept hold =
@@ -104,29 +105,40 @@ seen_shifted slots found p ps seen seens (q ∷ qs) others each = (
   seen_shifted slots found p ps seen seens qs others.1 each.1,
 )
 
--- what was seen of each slot, and where it is what is kept
+-- what is kept in each slot is alike what was seen of it
 abbrev pub Agrees : Slots → Names → List PropertyModel → List ValAtType → List Value → Type 0
 Agrees slots Passed ps seens values =
-    (name : List ℕ) → ¬ Passed name → field_by_name slots.properties ps seens name ≡ field_by_name slots.properties ps (map val_of values) name
+    (name : List ℕ) → ¬ Passed name → FieldsAlike Passed (field_by_name slots.properties ps (map val_of values) name) (field_by_name slots.properties ps seens name)
 
 pub record SeenRecord (slots : Slots) (Passed : Names) (found : List ℕ → Option Data) (ps : List PropertyModel) (values : List Value) : Type 0 where
   pub seens : List ValAtType
   pub each : SeenByName slots found ps seens ps
   pub agrees : Agrees slots Passed ps seens values
 
-agrees_more : (slots : Slots) (Passed : Names) (p : PropertyModel) (ps : List PropertyModel) (seen : ValAtType) (seens : List ValAtType) (v : Value) (values : List Value) → Passed p.name ⊎ (seen ≡ val_of v)
+agrees_more : (slots : Slots) (Passed : Names) (p : PropertyModel) (ps : List PropertyModel) (seen : ValAtType) (seens : List ValAtType) (v : Value) (values : List Value) → Passed p.name ⊎ SeenAlike slots Passed p.type_of (val_of v) seen
     → Agrees slots Passed ps seens values → Agrees slots Passed (p ∷ ps) (seen ∷ seens) (v ∷ values)
 agrees_more slots Passed p ps seen seens v values kept agrees name not = by (pointwise nat_eq p.name name) refl kept
   where
-    by : (b : Bool) → pointwise nat_eq p.name name ≡ b → Passed p.name ⊎ (seen ≡ val_of v)
-        → field_by_name slots.properties (p ∷ ps) (seen ∷ seens) name ≡ field_by_name slots.properties (p ∷ ps) (map val_of (v ∷ values)) name
-    by false e or = behind slots p ps seen seens name e ∙ agrees name not ∙ sym (behind slots p ps (val_of v) (map val_of values) name e)
+    stored : List ℕ → FieldVal
+    stored = field_by_name slots.properties (p ∷ ps) (map val_of (v ∷ values))
+
+    shown : List ℕ → FieldVal
+    shown = field_by_name slots.properties (p ∷ ps) (seen ∷ seens)
+
+    between : (f g : FieldVal) (n : List ℕ) → stored n ≡ f → shown n ≡ g → FieldsAlike Passed f g → FieldsAlike Passed (stored n) (shown n)
+    between f g n left right alike = subst (λ (x : FieldVal). FieldsAlike Passed x (shown n)) (sym left) (subst (FieldsAlike Passed f) (sym right) alike)
+
+    by : (b : Bool) → pointwise nat_eq p.name name ≡ b → Passed p.name ⊎ SeenAlike slots Passed p.type_of (val_of v) seen → FieldsAlike Passed (stored name) (shown name)
+    by false e or =
+        between (field_by_name slots.properties ps (map val_of values) name) (field_by_name slots.properties ps seens name) name (behind slots p ps (val_of v) (map val_of values) name e) (behind slots p ps seen seens name e) (agrees name not)
     by true e (inl passed) = absurd (not (subst Passed (same_text p.name name (sym e)) passed))
-    by true e (inr same) = ap (λ (s : ValAtType). field_by_name slots.properties (p ∷ ps) (s ∷ seens) name) same ∙ rw e refl
+    by true e (inr alike) =
+        subst (λ (n : List ℕ). FieldsAlike Passed (stored n) (shown n)) (same_text p.name name (sym e))
+        (between (field_of slots.properties p.type_of (val_of v)) (field_of slots.properties p.type_of seen) p.name (here slots p ps (val_of v) (map val_of values)) (here slots p ps seen seens) alike)
 
 pub seen_record : (slots : Slots) (Passed : Names) (found : List ℕ → Option Data) (ps : List PropertyModel) (values : List Value) → HasDistinctNames ps
     → HoldEach (FitsSlotBut slots Passed found) ps values → SeenRecord slots Passed found ps values
-seen_record slots Passed found [] [] distinct hold = record { seens = []; each = tt; agrees = λ name not. refl }
+seen_record slots Passed found [] [] distinct hold = record { seens = []; each = tt; agrees = λ name not. both_absent }
 seen_record slots Passed found [] (v ∷ values) distinct hold = absurd hold
 seen_record slots Passed found (p ∷ ps) [] distinct hold = absurd hold
 seen_record slots Passed found (p ∷ ps) (v ∷ values) distinct hold =

@@ -27,6 +27,7 @@ use Rattle.edm_rows.specs.private.RowSlots.{IsRowSlot, kinds_of, name_at}
 use Rattle.edm_rows.specs.private.RowTypes.{HasRecord, IsKindOf, IsMadeOf, IsTaskAs, nullable_as}
 use Rattle.edm_rows.proofs.FilledValues.{of_filled}
 use Rattle.edm_rows.proofs.RowLemmas.RowTypes.{agrees, held_fits, kind_single, kind_type, made_task, no_items, record_type, typed}
+use Rattle.edm_rows.proofs.RowLemmas.SlotsSeen.{seen_there, sees_fits}
 
 -- a value that fits its slot's property
 abbrev FitsThere : SchemaModel → Slots → Property → Value → Data → Type 0
@@ -119,5 +120,7 @@ module _ (schema : SchemaModel) (steps : List StepModel) (plans : List TypePlan)
         task = made_task slot plan.property.many (λ e. no_items schema steps plans plan slot name index (wanted_with plan.property.kind plan.target) made.values.kind made.values.is_kind (sym made.values.item ∙ e)) made.values.task;
         fits = held_fits schema steps plans plan slot name index id place planned made has;
         fills = filled_fits id place planned made has;
+        sees = sees_fits schema steps plans plan slot name index id place planned made has;
+        seen_at = seen_there schema steps plans plan slot name index id place planned made has;
         typed = typed schema steps plans plan slot name index made has;
       }

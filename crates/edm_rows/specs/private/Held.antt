@@ -9,8 +9,12 @@ use Rattle.csdl_schema.specs.SchemaModel.{Slots}
 use Rattle.edm_values.specs.declared.primitive.PrimitiveType.{PrimitiveType}
 use Rattle.edm_values.specs.declared.primitive.PrimitiveType.TheVariants as prim
 use Rattle.edm_values.specs.declared.value.Value.{Value, Null}
+use Rattle.edm_values.specs.Val.{Val}
+use Rattle.edm_rows.specs.Alike.{AreAlike, Names}
 use Rattle.edm_rows.specs.private.Passed.{FitsSome, FitsNullable}
+use Rattle.edm_entities.specs.Fits.{FitsFound, FitsType}
 use Rattle.edm_entities.specs.HoldsEachSlot.{HoldsEachSlot}
+use Rattle.edm_entities.specs.Row.{val_of}
 use Rattle.edm_rows.specs.declared.row_types.Task.{Task}
 use Rattle.edm_rows.specs.declared.row_types.Task.TheVariants.{Text, Number, Truth, Date, Moment, Guid, Member, Record, Items, Any}
 
@@ -54,6 +58,38 @@ FilledAs slots kinds nullable inner Items value json =
     IsFilled slots false nullable (collection (type_of kinds inner)) value json
 FilledAs slots kinds nullable inner task value json =
     IsFilled slots nullable nullable (single (type_of kinds task)) value json
+
+-- the type of all that a task reads
+abbrev pub read_type : Kinds → Task → Task → ExprType
+read_type kinds inner Items = collection (type_of kinds inner)
+read_type kinds inner task = single (type_of kinds task)
+
+-- a value of that type that is seen of JSON, which may be null if `takes`
+abbrev pub IsSeenOf : Slots → Bool → Bool → ExprType → Val → Data → Type 0
+IsSeenOf slots takes nullable type seen json =
+    FitsFound (Some json) takes seen (λ found. FitsType slots nullable type found seen)
+
+-- the value that is seen by a task; none where nothing is asked of the JSON
+abbrev pub IsSeenAs : Slots → Kinds → Bool → Task → Task → Val → Data → Type 0
+IsSeenAs slots kinds nullable inner Any seen json = ⊥
+IsSeenAs slots kinds nullable inner Items seen json =
+    IsSeenOf slots false nullable (collection (type_of kinds inner)) seen json
+IsSeenAs slots kinds nullable inner task seen json =
+    IsSeenOf slots nullable nullable (single (type_of kinds task)) seen json
+
+-- some value is seen of the JSON, to which the stored one is alike but for what is passed over
+abbrev pub IsFilledBut : Slots → Names → Bool → Bool → ExprType → Value → Data → Type 0
+IsFilledBut slots Passed takes nullable type value json =
+    (seen : Val) × IsSeenOf slots takes nullable type seen json
+    × AreAlike Passed (val_of value slots.properties type) seen
+
+-- the same of the value that a task reads
+abbrev pub FilledBut : Slots → Names → Kinds → Bool → Task → Task → Value → Data → Type 0
+FilledBut slots Passed kinds nullable inner Any value json = value ≡ Null
+FilledBut slots Passed kinds nullable inner Items value json =
+    IsFilledBut slots Passed false nullable (collection (type_of kinds inner)) value json
+FilledBut slots Passed kinds nullable inner task value json =
+    IsFilledBut slots Passed nullable nullable (single (type_of kinds task)) value json
 
 -- a task of a value by itself
 abbrev pub IsSingle : Task → Type 0

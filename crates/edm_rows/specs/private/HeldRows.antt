@@ -1,5 +1,5 @@
 -- For private clauses: the row that is held from line to line.
-use Rattle.std.specs.Prelude.{◌≡◌, ◌⊎◌, ◌+◌, ◌≤◌, ℕ, length, List, [], ◌∷◌, true, false, Some, map, slice_get, Bool, Vec}
+use Rattle.std.specs.Prelude.{◌≡◌, ◌≢◌, ◌⊎◌, ◌+◌, ◌≤◌, ℕ, length, List, [], ◌∷◌, true, false, Some, IfSome, map, slice_get, Bool, Vec}
 use Rattle.std.specs.declared.alloc.Global.{Global}
 use Rattle.serde_json.specs.Data.{Members, object}
 use Rattle.json_room.specs.LexemesAt.{PassesSpaces}
@@ -13,7 +13,7 @@ use Rattle.edm_rows.specs.private.Passed.{IsRowValue}
 use Rattle.edm_rows.specs.HeldSchema.{schema_in}
 use Rattle.json_room.specs.ValueStands.{ValueStands}
 use Rattle.edm_rows.specs.RowItems.{IsJsonBut, IsJsonLeftOut}
-use Rattle.edm_rows.specs.RowsOfType.{RowsOfType, names_unkept, row_held}
+use Rattle.edm_rows.specs.RowsOfType.{RowsOfType, TypeMarks, names_unkept, row_held}
 use Rattle.edm_values.specs.declared.sieve.Sieve.{Sieve}
 use Rattle.edm_values.specs.declared.value.Value.{Value, Record}
 use Rattle.edm_rows.specs.declared.kept_leaf.Taken.{Taken}
@@ -38,6 +38,18 @@ keeps_of type = map (λ s. s.is_kept) type.slots.items
 abbrev pub sieves_of : RowType → List Sieve
 sieves_of type = map (λ s. s.sieve) type.slots.items
 
+-- the marks of a type, and of each of these
+abbrev pub marks_at : RowType → TypeMarks
+marks_at type = record { type_id = type.type_id; kept = keeps_of type }
+
+abbrev pub marks_of : List RowType → List TypeMarks
+marks_of types = map marks_at types
+
+-- each of these types keeps all its slots
+abbrev pub AreKept : List RowType → Type 0
+AreKept types =
+    (place : ℕ) → IfSome (slice_get types place) (λ t. (slot : ℕ) → slice_get (keeps_of t) slot ≢ Some false)
+
 -- of a type's slots at most what is kept and the sieves are others: it stays the type of its plan
 pub record IsSameType (old new : RowType) : Type 0 where
   pub type_id : new.type_id ≡ old.type_id
@@ -45,13 +57,19 @@ pub record IsSameType (old new : RowType) : Type 0 where
   pub stays : (schema : SchemaModel) (steps : List StepModel) (plans : List TypePlan) (plan : TypePlan)
       → IsRowType schema steps plans plan old → IsRowType schema steps plans plan new
 
+-- the same of each of these types
+abbrev pub AreSameTypes : List RowType → List RowType → Type 0
+AreSameTypes [] [] = Unit {0}
+AreSameTypes (old ∷ olds) (new ∷ news) = IsSameType old new × AreSameTypes olds news
+AreSameTypes _ _ = ⊥
+
 abbrev pub rows_seen : Inside → RowsOfType
 rows_seen rows = record {
   schema = schema_in rows.schema;
   type_id = rows.plan.type_id;
   expansion = rows.plan.expansion;
   is_whole = rows.plan.is_whole;
-  kept = map (λ s. s.is_kept) (first_slots rows.types.items);
+  kept = marks_of rows.types.items;
   sieves = map (λ s. s.sieve) (first_slots rows.types.items);
   is_ready = rows.is_ready;
   value = rows.row;

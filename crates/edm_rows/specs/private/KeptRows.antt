@@ -4,7 +4,7 @@ use Rattle.json.specs.Lex.{fresh, after_value}
 use Rattle.json_room.specs.Lexemes.{tokens_at}
 use Rattle.serde_json.specs.Data.{Data, Members, object}
 use Rattle.serde_json.specs.Find.{get_member}
-use Rattle.csdl_schema.specs.SchemaModel.{PropertyModel, Slots, properties_at, slots_behind}
+use Rattle.csdl_schema.specs.SchemaModel.{PropertyModel, SchemaModel, Slots, properties_at, slots_behind}
 use Rattle.edm_values.specs.SieveMeaning.{Rejects}
 use Rattle.edm_values.specs.Val.{FieldVal, Val, present}
 use Rattle.edm_values.specs.declared.sieve.Sieve.{Sieve}
@@ -16,7 +16,7 @@ use Rattle.edm_row_plans.specs.declared.type_plan.SlotPlan.{SlotPlan}
 use Rattle.edm_row_plans.specs.declared.type_plan.TypePlan.{TypePlan}
 use Rattle.edm_entities.specs.Fits.{FitsProperty}
 use Rattle.edm_entities.specs.Row.{ValAtType, val_of}
-use Rattle.edm_rows.specs.private.Passed.{FitSlotsBut, FitSomeSlots, FitsSeen}
+use Rattle.edm_rows.specs.private.Passed.{FitSlotsBut, FitSomeSlots, FitsSeen, SeenAlike}
 use Rattle.json_room.specs.private.ItemTokens.{ReadsMembers}
 use Rattle.edm_entities.specs.private.Walk.{FitSlots, HoldsInSlot}
 use Rattle.edm_rows.specs.declared.passed_value.ReadContext.{ReadContext}
@@ -75,6 +75,28 @@ ConformsInSlot context slot value =
 abbrev pub GoesOn : ReadContext → RowSlot → Value → Value → Type 0
 GoesOn context slot old new = (new ≡ old) ⊎ ConformsInSlot context slot new
 
+-- ---- names that are passed over
+
+-- the names of a type's properties whose values are not kept
+abbrev pub names_unkept_in : List PropertyModel → List RowSlot → Names
+names_unkept_in properties slots name =
+    (index : ℕ) × (slice_get (map (λ s. s.is_kept) slots) index ≡ Some false)
+    × (slice_get (map (λ p. p.name) properties) index ≡ Some name)
+
+-- those of any of these types
+abbrev pub names_unkept_of : SchemaModel → List RowType → Names
+names_unkept_of schema types name =
+    (place : ℕ) × (type : RowType) × (slice_get types place ≡ Some type)
+    × names_unkept_in (properties_at schema type.type_id) type.slots.items name
+
+-- those of the types that a row is read by
+abbrev pub names_passed : ReadContext → Names
+names_passed context = names_unkept_of context.schema.now context.types.now
+
+-- those, and the ones that a row of these slots does not keep
+abbrev pub names_left : ReadContext → List RowSlot → Names
+names_left context rows name = names_unkept_in (root_properties context) rows name ⊎ names_passed context name
+
 -- ---- a value of a slot
 
 -- JSON that some value fits, each of which is rejected
@@ -85,23 +107,23 @@ IsRejectedIn context slot sieve json =
     → OfSlotProperty context slot (λ slots p. FitsProperty slots p.nullable p.type_of (Some json) held
     → (value : Val) × (held ≡ present value) × Rejects sieve value))
 
+-- JSON that some value fits, to which the stored one is alike but for what is passed over
+abbrev pub IsTakenAs : ReadContext → RowSlot → ValAtType → Data → Type 0
+IsTakenAs context slot stored json =
+    (seen : ValAtType) × FitsSlotAs context slot seen json
+    × OfSlotProperty context slot (λ slots p. SeenAlike slots (names_passed context) p.type_of stored seen)
+
 -- what became of a slot's value: it stands from one offset to another, and is the new one; or it is rejected, and the
 -- old one stays
 abbrev pub TakesValue : ReadContext → RowSlot → ℕ → Value → Value → ℕ → Taken → Type 0
 TakesValue context slot depth old new from Nothing = Unit {0}
 TakesValue context slot depth old new from Broken = Unit {0}
-TakesValue context slot depth old new from (Put to) = ValueStands depth context.line from to (FitsSlotAs context slot
-    (val_of new))
+TakesValue context slot depth old new from (Put to) =
+    ValueStands depth context.line from to (IsTakenAs context slot (val_of new))
 TakesValue context slot depth old new from (Rejected to) =
     ValueStands depth context.line from to (IsRejectedIn context slot slot.sieve) × (new ≡ old)
 
 -- ---- the row
-
--- the names of a type's properties whose values are not kept
-abbrev pub names_unkept_in : List PropertyModel → List RowSlot → Names
-names_unkept_in properties slots name =
-    (index : ℕ) × (slice_get (map (λ s. s.is_kept) slots) index ≡ Some false)
-    × (slice_get (map (λ p. p.name) properties) index ≡ Some name)
 
 -- the values fit the members of some object whole
 abbrev pub RowConforms : Slots → List PropertyModel → List Value → Type 0
@@ -122,7 +144,7 @@ pub record IsRowRejected (context : ReadContext) (slots : List RowSlot) (found :
 abbrev pub TakesFound : ReadContext → RowType → Bool → List Value → Members → Type 0
 TakesFound context type is_left_out values found =
     MatchBool is_left_out (IsRowRejected context type.slots.items found)
-    (FitSlotsBut (root_slots context) (names_unkept_in (root_properties context) type.slots.items) (object found)
+    (FitSlotsBut (root_slots context) (names_left context type.slots.items) (object found)
     (root_properties context) values)
 
 -- after an opening brace the members of a row stand from one offset to the other, with the closing one

@@ -11,7 +11,7 @@ use Rattle.edm_rows.specs.declared.kept_value.Step.TheVariants.{Broken, Nothing,
 use Rattle.edm_rows.specs.declared.passed_value.ReadContext.{ReadContext}
 use Rattle.edm_rows.specs.declared.row_types.RowSlot.{RowSlot}
 use Rattle.edm_rows.specs.declared.row_types.RowType.{RowType}
-use Rattle.edm_rows.specs.private.KeptRows.{IsRejectedIn, names_unkept_in, root_properties, root_slots}
+use Rattle.edm_rows.specs.private.KeptRows.{IsRejectedIn, names_left, root_properties, root_slots}
 use Rattle.json_room.specs.private.ValuesStand.{MembersRead, MembersUpTo}
 
 -- a slot is filled where its bit is set
@@ -37,7 +37,7 @@ abbrev pub SoFar : ReadContext → List RowSlot → Bool → ℕ → List Bool �
 SoFar context rows is_left_out seen filled values found =
     MatchBool is_left_out (PassedSoFar (root_slots context) (root_properties context) found filled
     × RejectedSoFar context rows seen found)
-    (SlotsSoFarBut (root_slots context) (names_unkept_in (root_properties context) rows)
+    (SlotsSoFarBut (root_slots context) (names_left context rows)
     (root_properties context) found filled values)
 
 -- the members before an offset, of which these slots were seen; and up to where the value of one ends

@@ -8,7 +8,7 @@ use Rattle.csdl_schema.specs.ExprType.{ExprType, SingleType}
 use Rattle.csdl_schema.specs.SchemaModel.{PropertyModel, PropertyType, Slots, slots_behind}
 use Rattle.edm_entities.specs.Fits.{FitItems, FitsFound, FitsProperty, FitsType}
 use Rattle.edm_entities.specs.Row.{ValAtType, field_of, val_of}
-use Rattle.edm_rows.specs.RowReading.{Names}
+use Rattle.edm_rows.specs.Alike.{FieldsAlike, Names}
 use Rattle.edm_rows.specs.private.SlotsSoFar.{HoldEachSoFar}
 use Rattle.edm_entities.specs.private.Walk.{HoldEach}
 pub use Rattle.edm_entities.specs.ValuesRead.{IsRowValue}
@@ -47,11 +47,16 @@ FitsSomeProperty slots nullable type found = (seen : ValAtType) × FitsSeen slot
 abbrev pub every_name : Names
 every_name name = Unit {0}
 
--- some value fits what was found, and is the one that is stored unless the property is passed
+-- a property's value as it is stored and as it is seen are alike
+abbrev pub SeenAlike : Slots → Names → PropertyType → ValAtType → ValAtType → Type 0
+SeenAlike slots Passed type stored seen =
+    FieldsAlike Passed (field_of slots.properties type stored) (field_of slots.properties type seen)
+
+-- some value fits what was found, to which the one that is stored is alike unless the property is passed
 abbrev pub FitsSlotBut : Slots → Names → (List ℕ → Option Data) → PropertyModel → Value → Type 0
 FitsSlotBut slots Passed found p value =
     (seen : ValAtType) × FitsSeen (slots_behind slots p.name) p.nullable p.type_of (found p.name) seen
-    × (Passed p.name ⊎ (seen ≡ val_of value))
+    × (Passed p.name ⊎ SeenAlike slots Passed p.type_of (val_of value) seen)
 
 -- the same of a slot that was filled; for another nothing was found
 abbrev pub FitsSoFarBut : Slots → Names → (List ℕ → Option Data) → PropertyModel → Bool → Value → Type 0

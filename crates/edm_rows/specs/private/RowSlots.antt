@@ -5,7 +5,7 @@ use Rattle.serde_json.specs.Data.{Data}
 use Rattle.csdl_schema.specs.ExpansionView.{StepModel}
 use Rattle.csdl_schema.specs.ExprType.{single}
 use Rattle.csdl_schema.specs.PropertyView.{property_type}
-use Rattle.csdl_schema.specs.SchemaModel.{SchemaModel, declared, properties_at, type_name_at}
+use Rattle.csdl_schema.specs.SchemaModel.{SchemaModel, declared, properties_at, slots_of, type_name_at}
 use Rattle.edm_values.specs.NumberTypes.{IsNumberOf}
 use Rattle.edm_values.specs.declared.primitive.PrimitiveType.{PrimitiveType}
 use Rattle.edm_values.specs.declared.primitive.PrimitiveType.TheVariants as prim
@@ -16,14 +16,15 @@ use Rattle.edm_row_plans.specs.declared.type_plan.SlotPlan.{SlotPlan}
 use Rattle.edm_row_plans.specs.declared.type_plan.TypePlan.{TypePlan}
 use Rattle.edm_rows.specs.private.Passed.{FitsSeen, FitsSomeProperty, MayBeAbsent}
 use Rattle.edm_entities.specs.private.Walk.{HoldsInSlot}
-use Rattle.edm_entities.specs.Row.{val_of}
+use Rattle.edm_entities.specs.Row.{ValAtType, field_of, val_of}
+use Rattle.edm_values.specs.Val.{Val, present}
 use Rattle.edm_values.specs.declared.value.Value.{Value}
 use Rattle.edm_rows.specs.declared.row_types.RowSlot.{RowSlot}
 use Rattle.edm_rows.specs.declared.row_types.RowType.{RowType}
 use Rattle.edm_rows.specs.declared.row_types.Task.{Task}
 use Rattle.edm_rows.specs.declared.row_types.Task.TheVariants.{Text, Number, Truth, Date, Moment, Guid, Record, Items, Any}
 use Rattle.seen_slots.specs.SlotBits.{bits_of}
-use Rattle.edm_rows.specs.private.Held.{FilledAs, IsHeldTo, IsLeaf, IsSingle, Kinds, type_of}
+use Rattle.edm_rows.specs.private.Held.{FilledAs, IsHeldTo, IsLeaf, IsSeenAs, IsSingle, Kinds, read_type, type_of}
 
 -- the name of a type of a schema, if there is one
 abbrev pub name_at : SchemaModel → Option ℕ → List ℕ
@@ -71,8 +72,8 @@ pub record IsSlotOf (plans : List TypePlan) (slot : RowSlot) : Type 0 where
 abbrev pub IsTaskOf : RowSlot → Task → Type 0
 IsTaskOf slot task = ((task ≢ Items) × (task ≡ slot.item)) ⊎ ((task ≡ Items) × IsSingle slot.item)
 
--- it is the slot of that index of a plan: what its task holds to fits the property, and a single value without parts is
--- of the task's type
+-- it is the slot of that index of a plan: what its task holds to fits the property, which has the type that the task
+-- reads, and a single value without parts is of the task's type
 pub record IsRowSlot
     (schema : SchemaModel) (steps : List StepModel) (plans : List TypePlan) (index : ℕ) (plan : SlotPlan)
     (slot : RowSlot) : Type 0 where
@@ -91,6 +92,14 @@ pub record IsRowSlot
       → FitsSeen (slots_at schema steps plan.node) plan.property.nullable
       (property_type schema plan.property) (Some json)
       (val_of value) × HoldsInSlot (slots_at schema steps plan.node) (property_type schema plan.property) value
+  pub sees : (seen : Val) (json : Data)
+      → IsSeenAs (slots_at schema steps slot.node) (kinds_of schema plans slot) slot.is_nullable slot.item slot.task
+      seen json
+      → FitsSeen (slots_at schema steps plan.node) plan.property.nullable (property_type schema plan.property)
+      (Some json) (λ properties type. seen)
+  pub seen_at : slot.task ≢ Any → (seen : ValAtType)
+      → field_of (slots_of schema).properties (property_type schema plan.property) seen
+      ≡ present (seen (slots_of schema).properties (read_type (kinds_of schema plans slot) slot.item slot.task))
   pub typed : IsLeaf slot.task → slot.task ≢ Any
       → (property_type schema plan.property ≡ declared (single (type_of (kinds_of schema plans slot) slot.task)))
       × (plan.property.nullable ≡ slot.is_nullable)

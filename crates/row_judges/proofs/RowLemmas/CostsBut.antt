@@ -1,6 +1,6 @@
 -- From what is known of an entity, which may lack what was passed, to what the JSON of its row costs.
 use mathlib.Core.Path.{fun_ext}
-use Rattle.std.proofs.Common.{◌≡◌, ◌≢◌, ◌⊎◌, inl, inr, ℕ, List, [], slice_get, sym, ap, ◌∙◌, subst, IfSome}
+use Rattle.std.proofs.Common.{◌≡◌, ◌≢◌, ◌⊎◌, inl, inr, ℕ, List, [], refl, slice_get, sym, ap, ◌∙◌, subst, IfSome}
 use Rattle.serde_json.specs.Data.{Data}
 use Rattle.edm_values.specs.MomentParts.{MomentParts}
 use Rattle.edm_values.specs.Val.{Val, FieldVal, fields}
@@ -21,9 +21,11 @@ use Rattle.odata_eval.specs.declared.verdict.Verdict.{Verdict}
 use Rattle.std.specs.Prelude.{Option, Result}
 use Rattle.row_judges.specs.RowAnswer.{PassesNone}
 use Rattle.row_judges.specs.RowCosts.{FilterCosts, HasCost}
-use Rattle.row_judges.proofs.RowLemmas.CostsAlone.{costs_same}
+use Rattle.edm_rows.proofs.AlikeValues.{alike_back}
+use Rattle.row_judges.proofs.RowLemmas.AlikeCosts.{costs_follow}
+use Rattle.row_judges.proofs.RowLemmas.AlikeMeans.{no_variables}
 use Rattle.row_judges.proofs.RowLemmas.RowJudges.{IsRowOf}
-use Rattle.row_judges.proofs.RowLemmas.RowsBut.{IsRowBut, fits_but, of_line, row_but, steps_same, tree_none}
+use Rattle.row_judges.proofs.RowLemmas.RowsBut.{IsRowBut, fits_but, of_line, row_but, tree_none}
 
 -- an entity with what the filter needs of a line, on which it costs what it costs on the line's value
 pub record IsRowCosting (filter : Filter) (now : MomentParts) (json : Data) (row : Row) : Type 0 where
@@ -60,8 +62,8 @@ whole_costs filter now json row is =
         same_type = is.same_type;
         whole = value_of row;
         fits = is.fits;
-        means = λ o. moved filter row is.same_schema is.same_type (MeansAt o);
-        meant = λ o. moved_back filter row is.same_schema is.same_type (MeansAt o);
+        means = λ o plain. moved filter row is.same_schema is.same_type (MeansAt o);
+        meant = λ o holds. (o, (moved_back filter row is.same_schema is.same_type (MeansAt o) holds, λ plain. refl));
       };
       whole = value_of row;
       fits = is.fits;
@@ -71,29 +73,21 @@ whole_costs filter now json row is =
 
 -- ---- an entity that lacks what was passed
 
-costs_alike : (filter : Filter) (Passed : Names) (schema : SchemaModel) (id : ℕ) (now : MomentParts) (kept whole : List ℕ → FieldVal) → PassesNone filter Passed → ((name : List ℕ) → ¬ Passed name → kept name ≡ whole name)
-    → Costs (slots_of schema) (type_name_at schema id) now (fields kept) [] (tree_of_filter filter) ≡ Costs (slots_of schema) (type_name_at schema id) now (fields whole) [] (tree_of_filter filter)
-costs_alike filter Passed schema id now kept whole passes agrees = by passes.no_row
-  where
-    by : ((name : List ℕ) → ¬ Passed name) ⊎ ((place : ℕ) → IfSome (slice_get filter.list.nodes place) (λ found. found.kind ≢ NodeKind.It))
-        → Costs (slots_of schema) (type_name_at schema id) now (fields kept) [] (tree_of_filter filter) ≡ Costs (slots_of schema) (type_name_at schema id) now (fields whole) [] (tree_of_filter filter)
-    by (inl none) = ap (λ (held : List ℕ → FieldVal). Costs (slots_of schema) (type_name_at schema id) now (fields held) [] (tree_of_filter filter)) (fun_ext (λ (name : List ℕ). agrees name (none name)))
-    by (inr no_row) =
-        costs_same (slots_of schema) (type_name_at schema id) now (fields kept) (fields whole) Passed (λ word not. steps_same kept whole word (agrees word not)) [] (tree_of_filter filter) (tree_none filter Passed passes no_row)
-
 pub kept_costs : (filter : Filter) (now : MomentParts) (line : List ℕ) (Passed : Names) (row : Row) → row.schema ≡ filter.schema → row.type_id ≡ filter.filtered
     → ((path : PropertyPath) → paths_in row.expansion path ≡ paths_in filter.expansion path) → PassesNone filter Passed → (read : IsLineBut line Passed row) → IsRowCosting filter now read.json row
 kept_costs filter now line Passed row schema_is type_is paths passes read =
     let tree = tree_of_filter filter in
-    let At : ℕ → SchemaModel → ℕ → Type 0 = λ k s n. Costs (slots_of s) (type_name_at s n) now (fields read.whole) [] tree k in
-    let same : Costs (slots_of row.schema) (type_name_at row.schema row.type_id) now (value_of row) [] tree ≡ Costs (slots_of row.schema) (type_name_at row.schema row.type_id) now (fields read.whole) [] tree =
-    ap (λ (v : Val). Costs (slots_of row.schema) (type_name_at row.schema row.type_id) now v [] tree) read.value_is ∙ costs_alike filter Passed row.schema row.type_id now read.kept read.whole passes read.agrees in
+    let none = tree_none filter Passed passes in
+    let slots = slots_of row.schema in
+    let root = type_name_at row.schema row.type_id in
+    let At : ℕ → SchemaModel → ℕ → Type 0 = λ k s n. Costs (slots_of s) (type_name_at s n) now read.whole [] tree k in
     record {
       reported = row_but filter now read.json Passed row schema_is type_is paths passes (of_line line Passed row read);
-      whole = fields read.whole;
+      whole = read.whole;
       fits = fits_but filter read.json Passed row schema_is type_is paths (of_line line Passed row read);
-      costs = λ k holds. moved filter row schema_is type_is (At k) (subst (λ (C : ℕ → Type 0). C k) same holds);
-      costed = λ k holds. subst (λ (C : ℕ → Type 0). C k) (sym same) (moved_back filter row schema_is type_is (At k) holds);
+      costs = λ k holds. moved filter row schema_is type_is (At k) (costs_follow Passed slots root now (value_of row) read.whole read.alike [] [] no_variables tree none k holds);
+      costed = λ k holds.
+          costs_follow Passed slots root now read.whole (value_of row) (alike_back Passed (value_of row) read.whole read.alike) [] [] no_variables tree none k (moved_back filter row schema_is type_is (At k) holds);
     }
 
 -- ---- its cost

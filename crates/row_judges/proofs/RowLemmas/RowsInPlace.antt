@@ -13,7 +13,7 @@ use Rattle.edm_entities.specs.Fits.{Fits}
 use Rattle.edm_entities.specs.Row.{slots_for}
 use Rattle.edm_rows.specs.RowReading.{IsLineBut, Names}
 use Rattle.edm_rows.specs.RowItems.{IsJsonBut, IsJsonLeftOut}
-use Rattle.edm_rows.specs.RowsOfType.{IsLeftOut, IsSameButKept, IsSameReader, RowsOfType, names_unkept, row_held}
+use Rattle.edm_rows.specs.RowsOfType.{IsLeftOut, IsSameButKept, IsSameReader, RowsOfType, TypeMarks, names_unkept, row_held}
 use Rattle.edm_rows.specs.declared.type_rows.Reading.{Reading}
 use Rattle.edm_values.specs.declared.sieve.Sieve.{Sieve}
 use Rattle.line_filter.specs.declared.judge.Judgment.{Judgment}
@@ -50,10 +50,6 @@ pub passes_less : (filter : Filter) (Passed Fewer : Names) → ((name : List ℕ
 passes_less filter Passed Fewer less passes = record {
   unnamed = λ place within passed. passes.unnamed place within (less _ passed);
   spelled = λ passed. passes.spelled (less [] passed);
-  no_row = elim passes.no_row [
-    | inl none ↦ inl (λ name passed. none name (less name passed))
-    | inr no_row ↦ inr no_row
-  ];
 }
 
 abbrev property_names : SchemaModel → ℕ → List (List ℕ)
@@ -61,10 +57,11 @@ property_names schema n = map (λ p. p.name) (properties_at schema n)
 
 -- readers of one type that keep the same leave the same names
 pub same_unkept : (old new : RowsOfType) → new.schema ≡ old.schema → new.type_id ≡ old.type_id → new.kept ≡ old.kept → (name : List ℕ) → names_unkept new name → names_unkept old name
-same_unkept old new schema_is type_is kept_is name (slot, left, at) = (
-  slot,
-  subst (λ (kept : List Bool). slice_get kept slot ≡ Some false) kept_is left,
-  subst (λ (n : ℕ). slice_get (property_names old.schema n) slot ≡ Some name) type_is (subst (λ (s : SchemaModel). slice_get (property_names s new.type_id) slot ≡ Some name) schema_is at),
+same_unkept old new schema_is type_is kept_is name (place, marks, there, left) = (
+  place,
+  marks,
+  subst (λ (kept : List TypeMarks). slice_get kept place ≡ Some marks) kept_is there,
+  subst (λ (s : SchemaModel). (slot : ℕ) × (slice_get marks.kept slot ≡ Some false) × (slice_get (property_names s marks.type_id) slot ≡ Some name)) schema_is left,
 )
 
 -- ---- what is kept

@@ -8,14 +8,15 @@ use Rattle.edm_values.specs.declared.value.Value.{List as ListOf, Record as Reco
 use Rattle.edm_rows.specs.declared.members.After.{After}
 use Rattle.edm_rows.specs.declared.row_types.RowType.{RowType}
 use Rattle.edm_rows.specs.declared.row_types.Task.TheVariants as task
-use Rattle.edm_rows.specs.private.Filled.{FilledRead, FilledUpTo, FillsItems, FillsMembers, FillsSlots, FillsValue}
+use Rattle.edm_rows.specs.private.Filled.{FilledRead, FilledUpTo, FillsItems, FillsMembers, FillsSlot, FillsSlots, FillsValue, IsAmongTypes}
 use Rattle.edm_rows.specs.private.Held.{IsSingle}
 use Rattle.edm_rows.specs.private.Members.{EndsMember}
 use Rattle.edm_rows.specs.private.RowSlots.{HasPrimitive, IsTypeOf, kinds_of}
-use Rattle.edm_rows.specs.private.Contexts.{FindsMember, slots_behind_node}
-use Rattle.edm_rows.proofs.FilledMembers.{filled_brace, filled_comma, filled_empty, filled_none, filled_other}
-use Rattle.edm_rows.proofs.FilledSteps.{no_slot_in, slot_filled_read, slot_found_in}
-use Rattle.edm_rows.proofs.FilledValues.{filled_behind, leaf_filled, list_bracket, list_comma, list_filled, list_start, no_list, put_leaf, record_filled}
+use Rattle.edm_rows.specs.private.Contexts.{FindsMember, PassesValue, slots_behind_node}
+use Rattle.edm_rows.specs.private.KeptRows.{names_passed}
+use Rattle.edm_rows.proofs.FilledMembers.{brace_conforms, empty_conforms, filled_brace, filled_comma, filled_empty, filled_none, filled_other}
+use Rattle.edm_rows.proofs.FilledSteps.{no_slot_in, slot_bounds, slot_filled_read, slot_found_in}
+use Rattle.edm_rows.proofs.FilledValues.{filled_behind, leaf_filled, list_bracket, list_comma, list_filled, list_start, no_list, none_alone, one_alone, put_leaf, record_filled}
 use Rattle.edm_rows.proofs.NextMembers.{as_many}
 use Rattle.edm_rows.proofs.ContextLemmas.{room_of, type_there}
 use Rattle.edm_rows.proofs.UnseenNull.{type_marks}
@@ -39,7 +40,7 @@ fill_sure-returns-in-Number-clause-filled g t c =
     let slot = c.args.slot.now in
     let line = context.line in
     let puts = put_leaf line (primitive slot.prim) slot.sieve c.args.value.now c.take_digits.new.value c.args.place c.take_digits.result c.put_end.result c.put_end.ensures c.take_digits.ensures in
-    leaf_filled (slots_behind_node context slot.node) (kinds_of context.schema.now context.plan.now.plans.items slot) slot.is_nullable slot.item c.args.cache.now.depth line c.args.place c.take_digits.new.value c.args.task task.Number slot.prim c.put_end.result c.in-Number.is
+    leaf_filled (slots_behind_node context slot.node) (names_passed context) (kinds_of context.schema.now context.plan.now.plans.items slot) slot.is_nullable slot.item c.args.cache.now.depth line c.args.place c.take_digits.new.value c.args.task task.Number slot.prim c.put_end.result c.in-Number.is
     ((λ e. absurd (cc)), (λ e. absurd (cc))) refl puts
 
 pub fill_sure-returns-in-Truth-clause-filled : goal.fill_sure-returns-in-Truth-clause-filled
@@ -48,7 +49,7 @@ fill_sure-returns-in-Truth-clause-filled g t c =
     let slot = c.args.slot.now in
     let line = context.line in
     let puts = put_leaf line (primitive prim.Bool) slot.sieve c.args.value.now c.take_truth.new.value c.args.place c.take_truth.result c.put_end-in-Truth.result c.put_end-in-Truth.ensures c.take_truth.ensures in
-    leaf_filled (slots_behind_node context slot.node) (kinds_of context.schema.now context.plan.now.plans.items slot) slot.is_nullable slot.item c.args.cache.now.depth line c.args.place c.take_truth.new.value c.args.task task.Truth prim.Bool c.put_end-in-Truth.result c.in-Truth.is
+    leaf_filled (slots_behind_node context slot.node) (names_passed context) (kinds_of context.schema.now context.plan.now.plans.items slot) slot.is_nullable slot.item c.args.cache.now.depth line c.args.place c.take_truth.new.value c.args.task task.Truth prim.Bool c.put_end-in-Truth.result c.in-Truth.is
     ((λ e. absurd (cc)), (λ e. absurd (cc))) refl puts
 
 pub fill_sure-returns-in-Text-clause-filled : goal.fill_sure-returns-in-Text-clause-filled
@@ -57,7 +58,7 @@ fill_sure-returns-in-Text-clause-filled g t c =
     let slot = c.args.slot.now in
     let line = context.line in
     let puts = put_leaf line (primitive prim.String) slot.sieve c.args.value.now c.take_text.new.value c.args.place c.take_text.result c.put_end-in-Text.result c.put_end-in-Text.ensures c.take_text.ensures in
-    leaf_filled (slots_behind_node context slot.node) (kinds_of context.schema.now context.plan.now.plans.items slot) slot.is_nullable slot.item c.args.cache.now.depth line c.args.place c.take_text.new.value c.args.task task.Text prim.String c.put_end-in-Text.result c.in-Text.is
+    leaf_filled (slots_behind_node context slot.node) (names_passed context) (kinds_of context.schema.now context.plan.now.plans.items slot) slot.is_nullable slot.item c.args.cache.now.depth line c.args.place c.take_text.new.value c.args.task task.Text prim.String c.put_end-in-Text.result c.in-Text.is
     ((λ e. absurd (cc)), (λ e. absurd (cc))) refl puts
 
 pub fill_sure-fill_record-requires : goal.fill_sure-fill_record-requires
@@ -119,6 +120,7 @@ fill_record-fill_members-end-requires g t c =
     let here = sym c.byte.ensures.here ∙ c.if-byte-ne123.false in
     let within : c.args.place + 1 ≤ length context.line = omega (arith, within_byte context.line c.args.place 123 here (λ e. omega arith)) in
     let room = room_of context g.M.SeenSlots.most slot.record type c.requires.rooms at in
+    let among : IsAmongTypes context type = (slot.record, at) in
     search rules
 
 pub fill_record-returns-in-Ok-Some-clause-filled : goal.fill_record-returns-in-Ok-Some-clause-filled
@@ -195,6 +197,7 @@ fill_items-items-init g t c = (
   refl,
   list_start c.args.context.now c.args.slot.now c.args.cache.now.depth c.args.from c.past_blanks-place.result c.args.items.now.items c.past_blanks-place.ensures,
   omega arith,
+  none_alone c.args.context.now c.args.slot.now c.args.items.now.items,
 )
 
 pub fill_items-items-preserved : goal.fill_items-items-preserved
@@ -214,6 +217,8 @@ fill_items-items-preserved g t c =
           (subst (λ n. FillsValue context slot slot.item n v l.place c.in-Some.end) l.invariant.0 c.in-Some.ensures.filled) c.past_blanks-place-in-items.ensures
           (within_byte d comma 44 here (λ e. omega arith)) (other_default d comma 44 here (λ e. omega arith)) c.past_blanks-place-in-44.ensures,
       omega (arith, length-set held l.count v, within),
+      one_alone context slot c.requires.single depth c.args.from l.place c.in-Some.end l.items.items held l.count v c.has_item.ensures.kept within l.invariant.3
+          (subst (λ n. FillsValue context slot slot.item n v l.place c.in-Some.end) l.invariant.0 c.in-Some.ensures.filled),
     )
 
 pub fill_items-returns-in-93-clause-filled : goal.fill_items-returns-in-93-clause-filled
@@ -229,7 +234,7 @@ fill_items-returns-in-93-clause-filled g t c =
     let bracket = c.past_blanks-place-in-items.result in
     let here = sym c.byte-in-items.ensures.here ∙ c.in-93.is in
     subst (λ vs. FillsItems context slot depth vs c.args.from (bracket + 1)) (sym c.cut-in-93.ensures)
-    (list_bracket context slot c.requires.single depth c.args.from l.place c.in-Some.end l.items.items held l.count v c.has_item.ensures.kept within bracket l.invariant.1
+    (list_bracket context slot c.requires.single depth c.args.from l.place c.in-Some.end l.items.items held l.count v c.has_item.ensures.kept within bracket l.invariant.1 l.invariant.3
     (subst (λ n. FillsValue context slot slot.item n v l.place c.in-Some.end) l.invariant.0 c.in-Some.ensures.filled) c.past_blanks-place-in-items.ensures
     (within_byte d bracket 93 here (λ e. omega arith)) (other_default d bracket 93 here (λ e. omega arith)))
 
@@ -240,8 +245,8 @@ fill_found-returns-in_default-clause-filled g t c from so_far _ =
     let a = c.args in
     filled_other a.context.now a.plan.now a.cache.now.depth from a.so_far.now.place a.found.place (g.M.SeenSlots.bits a.so_far.now.seen) a.values.now.items so_far (no_slot_in a.context.now a.plan.now a.cache.now.depth a.so_far.now.place a.found c.in_default.is c.requires.found)
 
-pub fill_found-fill_value-requires : goal.fill_found-fill_value-requires
-fill_found-fill_value-requires g t c =
+pub fill_found-fill_slot-requires : goal.fill_found-fill_slot-requires
+fill_found-fill_slot-requires g t c =
     let a = c.args in
     let f = slot_found_in a.context.now c.requires.plan.0 a.plan.now a.cache.now.depth a.so_far.now.place a.found c.in-Some.slot c.in-Some.is c.requires.plan.1 c.requires.found in
     let agrees = f.agrees in
@@ -262,21 +267,39 @@ fill_found-read_slot-requires g t c =
     let mark = f.mark g.M.SeenSlots.most c.requires.room in
     search rules
 
-pub fill_found-returns-in-Some-fill_value-clause-filled : goal.fill_found-returns-in-Some-fill_value-clause-filled
-fill_found-returns-in-Some-fill_value-clause-filled g t c from so_far _ =
+pub fill_found-returns-in-Some-fill_slot-clause-filled : goal.fill_found-returns-in-Some-fill_slot-clause-filled
+fill_found-returns-in-Some-fill_slot-clause-filled g t c from so_far _ =
     let a = c.args in
     let f = slot_found_in a.context.now c.requires.plan.0 a.plan.now a.cache.now.depth a.so_far.now.place a.found c.in-Some.slot c.in-Some.is c.requires.plan.1 c.requires.found in
     let new = c.read_slot.new.self in
-    let put = slice_set a.values.now.items c.in-Some.slot.now.index c.fill_value.new.value in
+    let put = slice_set a.values.now.items c.in-Some.slot.now.index c.fill_slot.new.value in
     subst (λ (k : ℕ). FilledRead a.context.now a.plan.now a.cache.now.depth from k (g.M.SeenSlots.bits new.seen) put) (sym c.read_slot.ensures.place)
-    (subst (λ (k : ℕ). FilledRead a.context.now a.plan.now a.cache.now.depth from c.in-Some-fill_value.end k put) (sym c.read_slot.ensures.seen)
-    (slot_filled_read a.context.now c.requires.plan.0 a.plan.now a.cache.now.depth from a.so_far.now.place a.found.place c.in-Some-fill_value.end (g.M.SeenSlots.bits a.so_far.now.seen) c.in-Some.slot.now a.values.now.items c.fill_value.new.value c.requires.plan.1 f so_far c.in-Some-fill_value.ensures.filled))
+    (subst (λ (k : ℕ). FilledRead a.context.now a.plan.now a.cache.now.depth from c.in-Some-fill_slot.end k put) (sym c.read_slot.ensures.seen)
+    (slot_filled_read a.context.now c.requires.plan.0 a.plan.now a.cache.now.depth from a.so_far.now.place a.found.place c.in-Some-fill_slot.end (g.M.SeenSlots.bits a.so_far.now.seen) c.in-Some.slot.now a.values.now.items c.fill_slot.new.value c.requires.plan.1 c.requires.among f so_far c.in-Some-fill_slot.ensures.filled))
 
-pub fill_found-returns-in-Some-fill_value-clause-further : goal.fill_found-returns-in-Some-fill_value-clause-further
-fill_found-returns-in-Some-fill_value-clause-further g t c _ =
+pub fill_found-returns-in-Some-fill_slot-clause-further : goal.fill_found-returns-in-Some-fill_slot-clause-further
+fill_found-returns-in-Some-fill_slot-clause-further g t c _ =
     let a = c.args in
     let f = slot_found_in a.context.now c.requires.plan.0 a.plan.now a.cache.now.depth a.so_far.now.place a.found c.in-Some.slot c.in-Some.is c.requires.plan.1 c.requires.found in
-    (omega (arith, f.names.bounds.0, c.in-Some-fill_value.ensures.filled.0.bounds.0, c.read_slot.ensures.place), subst (λ (k : ℕ). k < 1024) (sym c.read_slot.ensures.order) f.order)
+    let further = slot_bounds a.context.now c.in-Some.slot.now a.cache.now.depth c.fill_slot.new.value a.found.place c.in-Some-fill_slot.end c.in-Some-fill_slot.ensures.filled in
+    (omega (arith, f.names.bounds.0, further, c.read_slot.ensures.place), subst (λ (k : ℕ). k < 1024) (sym c.read_slot.ensures.order) f.order)
+
+pub fill_slot-returns-in-Some-clause-filled : goal.fill_slot-returns-in-Some-clause-filled
+fill_slot-returns-in-Some-clause-filled g t c =
+    let context = c.args.context.now in
+    let slot = c.args.slot.now in
+    let v = c.put_filler.new.value in
+    let takes = c.in-Some.ensures in
+    some_by c.value_end.result (PassesValue context slot slot.task c.args.cache.now.depth c.args.place) (FillsSlot context slot c.args.cache.now.depth v c.args.place)
+    (λ to passes. (inr (takes.0, passes), takes.1 v c.put_filler.ensures (slots_behind_node context slot.node) (kinds_of context.schema.now context.plan.now.plans.items slot))) c.value_end.ensures.passed
+
+pub fill_slot-returns-in-None-clause-filled : goal.fill_slot-returns-in-None-clause-filled
+fill_slot-returns-in-None-clause-filled g t c =
+    let context = c.args.context.now in
+    let slot = c.args.slot.now in
+    let v = c.fill_value.new.value in
+    some_by c.fill_value.result (FillsValue context slot slot.task c.args.cache.now.depth v c.args.place) (FillsSlot context slot c.args.cache.now.depth v c.args.place)
+    (λ to fills. (inl fills.0, fills.1)) c.fill_value.ensures.filled
 
 pub fill_members-members-init : goal.fill_members-members-init
 fill_members-members-init g t c =
@@ -341,7 +364,8 @@ fill_members-returns-then-ends_object-clause-filled g t c =
     let as_long : length new ≡ old.len = fills.long ∙ sym (ap length back.value) ∙ back.len in
     subst (λ vs. FillsMembers context type c.args.cache.now.depth vs c.args.from (brace + 1)) (sym (take_at new (drop (length new) old.items) old.len as_long)) (
       (omega (arith, c.past_blanks-first.ensures.bounds.0), omega (arith, within)),
-      filled_empty context type c.args.cache.now.depth c.requires.plan.1.optional count 0 old.items new fills (long ∙ count) c.args.from brace refl c.past_blanks-first.ensures within (other_default d brace 125 here (λ e. omega arith)),
+      filled_empty context type c.args.cache.now.depth c.requires.plan.1.optional count 0 old.items new fills (long ∙ count) refl c.args.from brace c.past_blanks-first.ensures within (other_default d brace 125 here (λ e. omega arith)),
+      empty_conforms context type c.args.cache.now.depth c.requires.plan.1.optional count 0 old.items new fills (long ∙ count) refl,
     )
 
 pub fill_members-returns-then-ends_object-2-clause-filled : goal.fill_members-returns-then-ends_object-2-clause-filled
@@ -364,6 +388,7 @@ fill_members-returns-then-ends_object-2-clause-filled g t c =
     subst (λ vs. FillsMembers context type depth vs c.args.from c.in-Some-Brace.next) (sym (take_at new (drop (length new) old.items) old.len as_long)) (
       (omega (arith, read_to.members.bounds.0, ends.0), ends.1),
       filled_brace context type depth c.requires.plan.1.optional count (g.M.SeenSlots.bits read.seen) old.items new fills (c.fill_found.ensures.long ∙ l.invariant.3 ∙ count) c.args.from read.place c.in-Some-Brace.next read_to ends,
+      brace_conforms context type depth c.requires.plan.1.optional count (g.M.SeenSlots.bits read.seen) old.items new fills (c.fill_found.ensures.long ∙ l.invariant.3 ∙ count) c.args.from read.place read_to,
     )
 
 pub fill_members-after_member-requires : goal.fill_members-after_member-requires

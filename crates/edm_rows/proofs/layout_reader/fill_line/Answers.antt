@@ -6,10 +6,11 @@ use Rattle.edm_row_plans.specs.Plans.{IsPlanOf}
 use Rattle.edm_rows.specs.HeldSchema.{schema_in}
 use Rattle.edm_rows.specs.RowLayout.{IsRowOfLine, LayoutOfRows}
 use Rattle.edm_rows.specs.declared.row_types.RowType.{RowType}
-use Rattle.edm_rows.specs.private.HeldRows.{AreTypesOf, HasFirstType}
+use Rattle.edm_rows.specs.private.HeldRows.{AreKept, AreTypesOf, HasFirstType}
 use Rattle.edm_rows.specs.private.LayoutRows.{row_by}
 use Rattle.edm_rows.proofs.RowsFilled.{filled_entity, filled_line}
 use Rattle.edm_rows.proofs.TypesChanged.{first_distinct, types_there}
+use Rattle.edm_rows.proofs.TypesKept.{none_passed}
 use Rattle.edm_rows.proofs.layout_reader.fill_line.Goals as goal
 
 pub fill_row-requires-clause-first : goal.fill_row-requires-clause-first
@@ -44,6 +45,7 @@ returns-clause-row c done =
     let copied : take (length line) c.as_slice-bytes.result.now ≡ line = ap (take (length line)) c.as_slice-bytes.ensures.value ∙ c.copy_with_room.ensures.copied c.if-not-copy_with_room.false in
     let same : c.in-Some.text.now ≡ line = c.in-Some.ensures ∙ copied in
     let whole : c.new-line.result ≡ line = c.new-line.ensures ∙ same in
+    let none = none_passed c.schema.result.now c.as_slice.result.now (subst AreKept (sym c.as_slice.ensures.value) c.layout.invariant.kept) in
     subst (λ (l : LayoutOfRows). IsRowOfLine line (row_by l row)) c.layout.view_is
     (subst (λ (s : SchemaModel). IsRowOfLine line (row_with s layout.plan.type_id layout.plan.expansion row)) there
-    (filled_line _ row plan.held distinct (c.fill_row.ensures done) line (subst IsUtf8 (c.text-text.ensures ∙ whole) c.text-text.utf8) whole))
+    (filled_line _ row plan.held distinct (c.fill_row.ensures done) none line (subst IsUtf8 (c.text-text.ensures ∙ whole) c.text-text.utf8) whole))

@@ -22,7 +22,7 @@ fill_members-filled-requires c =
     let is : get_or line begin 10 ≡ 123 = sym c.byte.ensures.here ∙ c.if-byte-ne123.false in
     let within : begin < length line = within_byte line begin 123 is (λ e. omega arith) in
     let rooms = room_said context c.requires.context 0 type at c.if-plan.true in
-    record { context = c.requires.context; rooms = rooms; plan = (root.plan, root.is); room = room_of context 64 0 type rooms at; within = omega (arith, within) }
+    record { context = c.requires.context; rooms = rooms; plan = (root.plan, root.is); among = (0, at); room = room_of context 64 0 type rooms at; within = omega (arith, within) }
 
 pub fill_members-filled-requires-else-plan : goal.fill_members-filled-requires-else-plan
 fill_members-filled-requires-else-plan c =
@@ -35,7 +35,7 @@ fill_members-filled-requires-else-plan c =
     let is : get_or line begin 10 ≡ 123 = sym c.byte.ensures.here ∙ c.if-byte-ne123.false in
     let within : begin < length line = within_byte line begin 123 is (λ e. omega arith) in
     let rooms = room_of_many context c.requires.context in
-    record { context = c.requires.context; rooms = rooms; plan = (root.plan, root.is); room = room_of context 1024 0 type rooms at; within = omega (arith, within) }
+    record { context = c.requires.context; rooms = rooms; plan = (root.plan, root.is); among = (0, at); room = room_of context 1024 0 type rooms at; within = omega (arith, within) }
 
 pub returns-in-Some-filled : goal.returns-in-Some-filled
 returns-in-Some-filled c done =

@@ -24,4 +24,4 @@ invariant_of-self c =
     reader_stays rows c.self.invariant c.fill_row-self-inside.new.cache rows.known row c.self.invariant.known c.fill_row-self-inside.result (types_there (schema_in rows.schema) rows.plan rows.types.items some c.self.invariant.types)
     (λ done. let fills = c.fill_row-self-inside.ensures done in
     subst (λ s. IsRowValue (slots_at s rows.plan.expansion (Some 0)) (properties_at s rows.plan.type_id) row) c.schema.ensures
-    (fills.values, c.keep_if.ensures done ∙ fills.is_record, (fills.found, fills.fits)))
+    (fills.values, c.keep_if.ensures done ∙ fills.is_record, fills.conforms))

@@ -12,7 +12,7 @@ use Rattle.edm_rows.specs.declared.kept_leaf.Taken.TheVariants.{Broken, Put, Rej
 use Rattle.edm_values.specs.declared.value.Value.{Value}
 use Rattle.edm_rows.proofs.RowsRead.{by_way, item_left_out, item_taken, whole_unless}
 use Rattle.edm_rows.proofs.RowsStay.{reader_stays}
-use Rattle.edm_rows.proofs.TypesChanged.{first_distinct}
+use Rattle.edm_rows.proofs.TypesChanged.{first_distinct, first_id}
 use Rattle.edm_rows.proofs.type_rows.TypeRows.read_object.Goals as goal
 
 pub take_row-taken-requires-clause-first : goal.take_row-taken-requires-clause-first
@@ -63,6 +63,6 @@ returns-clause-object c =
     subst (λ s. ReadsRowAt c.args.depth text place (seen c.keep_if.new.row s) taken) there
     (by_way (λ way. Reads way c.keep_if.new.row) taken
     (λ to is. subst (Reads (Put to)) (same (λ broken. let put : Put to ≡ Broken = sym is ∙ broken in cc))
-    (item_taken _ row c.take_row-taken.result place to ready text rows.types.items c.args.depth c.take_row-taken.ensures.row c.new.ensures c.as_slice.ensures.value refl plan.held distinct is))
+    (item_taken _ row c.take_row-taken.result place to ready text rows.types.items c.args.depth c.take_row-taken.ensures.row c.new.ensures c.as_slice.ensures.value refl plan.held distinct (λ type at. first_id c.schema.result.now rows.plan rows.types.items type at types) is))
     (λ to is. subst (Reads (Rejected to)) (same (λ broken. let rejected : Rejected to ≡ Broken = sym is ∙ broken in cc))
     (item_left_out _ row c.take_row-taken.result place to ready text rows.types.items c.args.depth c.take_row-taken.ensures.row c.new.ensures c.as_slice.ensures.value refl plan.held distinct is)) tt tt)

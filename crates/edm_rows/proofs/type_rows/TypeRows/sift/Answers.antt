@@ -23,4 +23,4 @@ returns-then-len-gt0 c =
     let less : 0 < length types = omega arith in
     let at : slice_get types 0 ≡ Some old = slice_get_read types (length types) 0 old refl less c.index_mut.ensures.value in
     subst (λ (m : RowsOfType). rows_seen (record rows { types = with_item rows.types 0 c.sift_slot.new.of }) ≡ record m { sieves = sifted m.sieves c.args.slot c.args.sieve }) c.self.view_is
-    (rows_sifted rows c.self.invariant old c.sift_slot.new.of at (with_item rows.types 0 c.sift_slot.new.of) refl c.args.slot c.args.sieve c.sift_slot.ensures.kept c.sift_slot.ensures.sieves)
+    (rows_sifted rows c.self.invariant old c.sift_slot.new.of at c.sift_slot.ensures.same (with_item rows.types 0 c.sift_slot.new.of) refl c.args.slot c.args.sieve c.sift_slot.ensures.kept c.sift_slot.ensures.sieves)
