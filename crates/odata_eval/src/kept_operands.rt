@@ -1,5 +1,5 @@
-//! Operands of which no value is made: a step from a value that is kept, the length of a kept text, and a kept text of
-//! whose lower case only the start is asked.
+//! Operands of which no value is made: a step from a value that is kept, the length of a kept text, and kept texts that
+//! are searched, of whose lower case only the start.
 ghost use Rattle.std.specs.Prelude.{◌≡◌, ◌+◌, ℕ, IfSome, List, Ok, Some};
 ghost use Rattle.odata_checked_filter.specs.declared.checked_node.NodeKind.{NodeKind as Kind};
 ghost use Rattle.odata_eval.specs.private.KeptOperands.{AnswersCall, AnswersLast, AnswersLowered, AnswersText, IsPathAt};
@@ -12,7 +12,9 @@ use super::walk_operand::{right_of, stop_of};
 use edm_values::{Datum, Value};
 use odata_checked_filter::NodeKind;
 use odata_filter_operations::{compare_kept, compare_numbers, datum_of, kept_number};
-use odata_functions::{comparisons_are_decided, lower_starts_with, text_length};
+use odata_functions::{
+    comparisons_are_decided, contains, ends_with, lower_starts_with, starts_with, text_length,
+};
 use odata_signatures::{Function, calls_have_one_type, trees_have_one_type};
 use odata_syntax::{BinaryOperator, ComparisonOperator};
 
@@ -85,7 +87,7 @@ fn step_at<'e>(context: &EvalContext<'e, '_, '_>, place: usize, slot: usize) -> 
 /// The kept text to which such a path leads.
 #[inline(always)]
 fn kept_text_at<'e>(context: &EvalContext<'e, '_, '_>, place: usize) -> Option<&'e str>
-    requires { PartStands context.now place }
+    requires { OperandStands context.now place }
     ensures { IfSome result (λ given. AnswersText context.now place given.now) }
 {
     let Some(value) = kept_at(context, place) else {
@@ -157,8 +159,10 @@ fn lowered_text_at<'e>(context: &EvalContext<'e, '_, '_>, place: usize) -> Optio
     }
 }
 
-/// Whether the lower case of a kept text begins with another kept text, where the call asks for that.
-pub(crate) fn lower_start_at(
+/// Whether a kept text contains another kept text, or begins or ends with it, and whether its lower case begins with
+/// it, where the call asks for that.
+#[inline(never)]
+pub(crate) fn text_test_at(
     context: &EvalContext<'_, '_, '_>,
     place: usize,
     function: Function,
@@ -167,11 +171,22 @@ pub(crate) fn lower_start_at(
     requires here { HasCall context.now.list place function }
     ensures { IfSome result (λ truth. AnswersTruth context.now place (Ok (Some truth))) }
 {
+    let _nodes = context.nodes();
+    if let Some(text) = kept_text_at(context, place + 1) {
+        let Some(part) = last_text_at(context, place, function) else {
+            return None;
+        };
+        return match function {
+            Function::Contains => Some(contains(text, part)),
+            Function::StartsWith => Some(starts_with(text, part)),
+            Function::EndsWith => Some(ends_with(text, part)),
+            _ => None,
+        };
+    }
     match function {
         Function::StartsWith => {}
         _ => return None,
     }
-    let _nodes = context.nodes();
     let Some(text) = lowered_text_at(context, place + 1) else {
         return None;
     };

@@ -13,7 +13,7 @@ use super::budget::{Counting, Unbounded, fault_of};
 use super::datum_walk::eager_at;
 use super::eval_context::EvalContext;
 use super::kept_arithmetic::arithmetic_compared_at;
-use super::kept_operands::{kept_compared_at, lower_start_at};
+use super::kept_operands::{kept_compared_at, text_test_at};
 use super::kept_terms::kept_truth_at;
 use super::logical::{decides, join};
 use super::number_walk::number_at;
@@ -73,6 +73,11 @@ fn plain_truth_at<B: Counting>(
         }
     }
     if let NodeKind::Call { function } = context.node(place).kind {
+        if !B::is_counting() {
+            if let Some(truth) = text_test_at(context, place, function) {
+                return Ok(Some(truth));
+            }
+        }
         return called_truth_at(context, place, function, budget);
     }
     match walk_operand_at(context, place) {
@@ -188,14 +193,7 @@ fn called_truth_at<B: Counting>(
     let own_stop = stop_of(context, place);
     let first = match walk_operand_at(context, place + 1) {
         WalkOperand::Leaf(value) => datum_of(value),
-        _ => {
-            if !B::is_counting() {
-                if let Some(truth) = lower_start_at(context, place, function) {
-                    return Ok(Some(truth));
-                }
-            }
-            return made_truth_at(context, place, budget);
-        }
+        _ => return made_truth_at(context, place, budget),
     };
     let second_place = stop_of(context, place + 1);
     if second_place == own_stop {

@@ -297,6 +297,19 @@ datum_walk::compared_at-returns-clause-answers g t c =
 
 -- ---- a node that is none of truth values
 
+pub truth_walk::plain_truth_at-text_test_at-requires : goal.truth_walk::plain_truth_at-text_test_at-requires
+truth_walk::plain_truth_at-text_test_at-requires g t c = record {
+  stands = typed_part c.args.context.now c.args.place IsBooleanOrNull c.requires.stands;
+  here = there_found (λ (f : CheckedNode). f.kind ≡ NodeKind.Call c.in-Call.function) (slice_get c.args.context.now.list.nodes c.args.place) c.node-2.result.now c.node-2.ensures c.in-Call.is;
+}
+
+pub truth_walk::plain_truth_at-returns-in-Some-clause-answers : goal.truth_walk::plain_truth_at-returns-in-Some-clause-answers
+truth_walk::plain_truth_at-returns-in-Some-clause-answers g t c = c.in-Some.ensures
+
+pub truth_walk::plain_truth_at-returns-in-Some-clause-spent : goal.truth_walk::plain_truth_at-returns-in-Some-clause-spent
+truth_walk::plain_truth_at-returns-in-Some-clause-spent g t c =
+    unbounded_spends c.args.context.now c.args.place (g.B.Counting.left c.args.budget.now) (c.is_counting.ensures c.if-not-is_counting.true c.args.budget.now)
+
 pub truth_walk::plain_truth_at-kept_truth-requires : goal.truth_walk::plain_truth_at-kept_truth-requires
 truth_walk::plain_truth_at-kept_truth-requires g t c = value_kept c.args.context.now c.args.place c.in-Leaf.value.now c.in-Leaf.ensures.0 truth_values c.ends_once.ensures c.requires.stands
 
@@ -781,16 +794,6 @@ truth_walk::called_truth_at-stop_of-own_stop-requires g t c = part_inside c.args
 
 pub truth_walk::called_truth_at-walk_operand_at-requires : goal.truth_walk::called_truth_at-walk_operand_at-requires
 truth_walk::called_truth_at-walk_operand_at-requires g t c = record { stands = tree_operand c.args.context.now (c.args.place + 1) (first_there c.args.context.now c.calls_have_one_type.ensures.named c.args.place c.args.function c.requires.here c.stop_of-own_stop.result c.stop_of-own_stop.ensures (typed_part c.args.context.now c.args.place IsBooleanOrNull c.requires.stands)) }
-
-pub truth_walk::called_truth_at-lower_start_at-requires : goal.truth_walk::called_truth_at-lower_start_at-requires
-truth_walk::called_truth_at-lower_start_at-requires g t c = record { stands = typed_part c.args.context.now c.args.place IsBooleanOrNull c.requires.stands; here = c.requires.here }
-
-pub truth_walk::called_truth_at-returns-in-Some-clause-answers : goal.truth_walk::called_truth_at-returns-in-Some-clause-answers
-truth_walk::called_truth_at-returns-in-Some-clause-answers g t c = c.in-Some.ensures
-
-pub truth_walk::called_truth_at-returns-in-Some-clause-spent : goal.truth_walk::called_truth_at-returns-in-Some-clause-spent
-truth_walk::called_truth_at-returns-in-Some-clause-spent g t c =
-    unbounded_spends c.args.context.now c.args.place (g.B.Counting.left c.args.budget.now) (c.is_counting.ensures c.if-not-is_counting.true c.args.budget.now)
 
 pub truth_walk::called_truth_at-stop_of-second_place-requires : goal.truth_walk::called_truth_at-stop_of-second_place-requires
 truth_walk::called_truth_at-stop_of-second_place-requires g t c = part_inside c.args.context.now (c.args.place + 1) (first_there c.args.context.now c.calls_have_one_type.ensures.named c.args.place c.args.function c.requires.here c.stop_of-own_stop.result c.stop_of-own_stop.ensures (typed_part c.args.context.now c.args.place IsBooleanOrNull c.requires.stands))

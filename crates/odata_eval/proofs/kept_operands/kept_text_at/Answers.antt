@@ -1,11 +1,10 @@
 use Rattle.std.proofs.Common.{subst, sym}
 use Rattle.odata_eval.specs.private.KeptOperands.{AnswersText}
 use Rattle.odata_eval.proofs.walking.TextArguments.{kept_text}
-use Rattle.filter_context.proofs.Operands.{tree_operand}
 use Rattle.odata_eval.proofs.kept_operands.kept_text_at.Goals as goal
 
 pub kept_at-requires : goal.kept_at-requires
-kept_at-requires c = tree_operand c.args.context.now c.args.place c.requires
+kept_at-requires c = c.requires
 
 pub returns-in-Text : goal.returns-in-Text
 returns-in-Text c =

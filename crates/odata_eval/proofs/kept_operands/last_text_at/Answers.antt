@@ -1,4 +1,5 @@
 use Rattle.std.proofs.Common.{◌<◌, length, rules, ◌+◌}
+use Rattle.filter_context.proofs.Operands.{tree_operand}
 use Rattle.filter_context.proofs.Parts.{part_inside, some_weaker}
 use Rattle.odata_eval.proofs.walking.TextArguments.{first_stands, last_text, second_stands}
 use Rattle.odata_eval.proofs.kept_operands.last_text_at.Goals as goal
@@ -25,8 +26,9 @@ stop_of-requires c =
 
 pub kept_text_at-requires : goal.kept_text_at-requires
 kept_text_at-requires c =
-    second_stands c.args.context.now c.calls_have_one_type.ensures.named c.args.place c.args.function c.requires.here c.stop_of-own_stop.result c.stop_of-own_stop.ensures c.requires.stands c.ends_once.ensures
-    c.stop_of-second_place.result c.stop_of-second_place.ensures c.if-second_place-own_stop.false c.requires.first.0 c.requires.first.1
+    tree_operand c.args.context.now c.stop_of-second_place.result
+    (second_stands c.args.context.now c.calls_have_one_type.ensures.named c.args.place c.args.function c.requires.here c.stop_of-own_stop.result c.stop_of-own_stop.ensures c.requires.stands c.ends_once.ensures
+    c.stop_of-second_place.result c.stop_of-second_place.ensures c.if-second_place-own_stop.false c.requires.first.0 c.requires.first.1)
 
 pub returns : goal.returns
 returns c =

@@ -1,4 +1,5 @@
 use Rattle.std.proofs.Common.{◌<◌, length, rules, ◌+◌}
+use Rattle.filter_context.proofs.Operands.{tree_operand}
 use Rattle.filter_context.proofs.Parts.{part_inside, some_weaker}
 use Rattle.odata_eval.proofs.walking.TextArguments.{first_stands, only_text}
 use Rattle.odata_eval.proofs.kept_operands.only_text_at.Goals as goal
@@ -19,7 +20,8 @@ stop_of-requires c =
 
 pub kept_text_at-requires : goal.kept_text_at-requires
 kept_text_at-requires c =
-    first_stands c.args.context.now c.calls_have_one_type.ensures.named c.args.place c.args.function c.requires.here c.stop_of-own_stop.result c.stop_of-own_stop.ensures c.requires.stands
+    tree_operand c.args.context.now (c.args.place + 1)
+    (first_stands c.args.context.now c.calls_have_one_type.ensures.named c.args.place c.args.function c.requires.here c.stop_of-own_stop.result c.stop_of-own_stop.ensures c.requires.stands)
 
 pub returns : goal.returns
 returns c =
