@@ -137,7 +137,7 @@ array_read judge line from bracket end flags finds judged =
     member_then 126 line from finds.key bracket end (codes "value") (λ found. Unit {0}) (HasValue json) (λ d. d ≡ json) (λ found d _ is. get_member-put (codes "value") d found ∙ ap Some is) finds.members finds.names stands
 
 -- an object that is the whole text, but for white space
-whole_object : (text : List ℕ) (begin end : ℕ) (P : Members → Type 0) → PassesSpaces text 0 begin → begin < length text → get_or text begin 32 ≡ 123 → ReadsMembers 126 (tokens_at fresh text (begin + 1)) (tokens_at after_value text end) P
+pub whole_object : (text : List ℕ) (begin end : ℕ) (P : Members → Type 0) → PassesSpaces text 0 begin → begin < length text → get_or text begin 32 ≡ 123 → ReadsMembers 126 (tokens_at fresh text (begin + 1)) (tokens_at after_value text end) P
     → PassesSpaces text end (length text) → (found : Members) × (read text ≡ Some (object found)) × P found
 whole_object text begin end P passed within is members last =
     let Whole : (Data → Type 0) = λ json. (found : Members) × (json ≡ object found) × P found in

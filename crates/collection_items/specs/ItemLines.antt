@@ -4,7 +4,7 @@ use Rattle.json.specs.Lex.{Place, after_value, may_begin}
 use Rattle.serde_json.specs.Data.{Data}
 use Rattle.json_room.specs.Lexemes.{tokens_at}
 use Rattle.json_room.specs.ValueTokens.{Reads}
-use Rattle.collection_items.specs.JudgedItems.{AreJudged}
+use Rattle.collection_items.specs.JudgedItems.{AreJudged, IsArrayIn}
 
 -- a byte in a line: a line feed and a carriage return, which stand between tokens of JSON alone, are spaces there
 -- (RFC 8259, section 2)
@@ -31,3 +31,7 @@ pub record StandsBetween (text : List ℕ) (json : Data) (bounds : ℕ × ℕ) :
 abbrev pub AreItemLines : List ℕ → List Data → List ℕ → Type 0
 AreItemLines text items lines =
     (places : List (ℕ × ℕ)) × AreJudged (StandsBetween text) items places × (lines ≡ lines_between text places)
+
+-- the text is a JSON object whose member `value` is an array, and the lines are those of its items
+abbrev pub HasItemLines : List ℕ → List ℕ → Type 0
+HasItemLines text lines = (items : List Data) × IsArrayIn text items × AreItemLines text items lines

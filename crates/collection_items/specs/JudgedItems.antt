@@ -1,7 +1,7 @@
 -- The items of a collection, and whether each is kept (OData JSON Format 4.01, section 13).
-use Rattle.std.specs.Prelude.{◌≡◌, ℕ, List, [], ◌∷◌, Bool, Some, codes}
-use Rattle.serde_json.specs.Data.{Data, Members, array, object}
-use Rattle.serde_json.specs.Find.{get_member}
+use Rattle.std.specs.Prelude.{◌≡◌, ◌⊎◌, ℕ, List, [], ◌∷◌, Bool, Option, Some, None, IsUtf8, codes, option_and_then}
+use Rattle.serde_json.specs.Data.{Data, Items, Members, array, object}
+use Rattle.serde_json.specs.Find.{as_array, get, get_member}
 use Rattle.serde_json.specs.Read.{read}
 use Rattle.serde_json.specs.View.{items_of}
 
@@ -27,3 +27,12 @@ HasValue json found = get_member (codes "value") found ≡ Some json
 -- the text is a JSON object whose member `value` is an array of these items
 abbrev pub IsArrayIn : List ℕ → List Data → Type 0
 IsArrayIn text items = (found : Members) × (read text ≡ Some (object found)) × HasValue (array (items_of items)) found
+
+-- the array that a JSON object has as its member `value`
+abbrev pub array_of : Data → Option Items
+array_of json = option_and_then as_array (get (codes "value") json)
+
+-- the bytes are no JSON text, or that of a value without such an array
+abbrev pub IsNoArrayIn : List ℕ → Type 0
+IsNoArrayIn bytes =
+    (IsUtf8 bytes → read bytes ≡ None) ⊎ ((json : Data) × (read bytes ≡ Some json) × (array_of json ≡ None))

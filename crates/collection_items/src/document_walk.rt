@@ -13,13 +13,13 @@ use json_room::{DecodeBuffer, RoomyLine, any_text_at, any_value_end, past_blanks
 use std::alloc::Global;
 
 /// How deep the value of a document's member may nest.
-const DEPTH: usize = 126;
+pub(crate) const DEPTH: usize = 126;
 
 /// A member's name, and the offset of its value.
 #[derive(Clone, Copy, Drop)]
 pub(crate) struct MemberName {
-    is_value: bool,
-    place: usize,
+    pub(crate) is_value: bool,
+    pub(crate) place: usize,
 }
 
 /// What stands after an item or a member, and the offset of what comes next.
@@ -95,7 +95,7 @@ pub(crate) fn array_after(
 }
 
 /// The name of the member that stands there.
-fn member_name(
+pub(crate) fn member_name(
     document: &RoomyLine<'_>,
     place: usize,
     buffer: &mut DecodeBuffer,
@@ -169,7 +169,7 @@ pub(crate) fn after_item(document: &RoomyLine<'_>, end: usize) -> Option<After>
 }
 
 /// The comma or the brace after a member that ends there.
-fn after_member(document: &RoomyLine<'_>, end: usize) -> Option<After>
+pub(crate) fn after_member(document: &RoomyLine<'_>, end: usize) -> Option<After>
     requires { end ≤ length document.now }
     ensures { IfSome result (EndsPair document.now end) }
 {

@@ -12,6 +12,7 @@ pub mod Measures
 pub mod MemberSteps
 pub mod MemberValues
 pub mod MembersAsked
+pub mod NodeWays
 pub mod PassedSlots
 pub mod Readings
 pub mod Sides

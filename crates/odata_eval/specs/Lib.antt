@@ -20,6 +20,7 @@ pub use Rattle.odata_filter_operations.specs.CalculationGives
 pub use Rattle.odata_filter_operations.specs.CallGives
 pub use Rattle.odata_filter_operations.specs.CollectionGives
 pub use Rattle.odata_filter_operations.specs.CompareGives
+pub use Rattle.odata_filter_operations.specs.DatumView
 pub use Rattle.odata_filter_operations.specs.FaultView
 pub use Rattle.odata_filter_operations.specs.FunctionGives
 pub use Rattle.odata_filter_operations.specs.HasGives
@@ -27,6 +28,7 @@ pub use Rattle.odata_filter_operations.specs.LambdaGives
 pub use Rattle.odata_filter_operations.specs.LeftFirst
 pub use Rattle.odata_filter_operations.specs.Outcome
 pub use Rattle.odata_filter_operations.specs.QuantifierGives
+pub use Rattle.odata_filter_operations.specs.Reports
 pub use Rattle.odata_filter_operations.specs.TextCosts
 pub use Rattle.odata_filter_operations.specs.TruthGives
 pub use Rattle.odata_functions.specs.Arithmetic
@@ -34,6 +36,7 @@ pub use Rattle.odata_functions.specs.Bits
 pub use Rattle.odata_functions.specs.Comparable
 pub use Rattle.odata_functions.specs.Comparison
 pub use Rattle.odata_functions.specs.Connectives
+pub use Rattle.odata_functions.specs.DatumVal
 pub use Rattle.odata_signatures.specs.Functions
 pub use Rattle.odata_signatures.specs.LiteralValue
 pub use Rattle.odata_signatures.specs.NeededPaths
@@ -65,6 +68,7 @@ pub use Rattle.odata_meaning.specs.TypesAtPaths
 pub use Rattle.odata_meaning.specs.UnreadMeans
 pub mod CostsOn
 pub mod FalseWhere
+pub mod NodeOutcome
 pub mod TrueWhere
 pub mod VerdictView
 pub mod private

@@ -1,6 +1,7 @@
 -- Definitions that private clauses alone cite.
 pub mod KeptOperands
 pub mod Lambda
+pub mod NodeWays
 pub mod PassedTests
 pub mod RemainingTerms
 pub mod Spending

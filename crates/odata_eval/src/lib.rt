@@ -21,6 +21,7 @@ mod kept_operands;
 mod kept_terms;
 mod lambda_walk;
 mod logical;
+mod node_value;
 mod number_walk;
 mod passed_tests;
 mod stop;
@@ -31,6 +32,7 @@ mod walk_operand;
 
 pub use bounded_evaluator::evaluate_within;
 pub use evaluator::{evaluate, evaluate_with};
+pub use node_value::{Evaluation, evaluate_node};
 pub use odata_filter_operations::EvalFault;
 pub use value_tests::{SlotSieve, SlotTests, slot_sieves};
 pub use verdict::Verdict;

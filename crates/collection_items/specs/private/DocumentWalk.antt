@@ -1,14 +1,16 @@
 -- For private clauses: a walk over a document, around the items of its member `value`.
-use Rattle.std.specs.Prelude.{◌≡◌, ◌≢◌, ℕ, ◌<◌, ◌≤◌, List, length, get_or, Bool, true, false, None, Some, codes}
+use Rattle.std.specs.Prelude.{◌≡◌, ◌≢◌, ◌⊎◌, ℕ, ◌<◌, ◌≤◌, List, length, get_or, Bool, true, false, None, Some, codes}
 use Rattle.json.specs.Json.{after_end_array, read_key}
 use Rattle.json.specs.Lex.{fresh, after_value, after_comma}
-use Rattle.serde_json.specs.Data.{Data}
+use Rattle.serde_json.specs.Data.{Data, Members, array}
 use Rattle.serde_json.specs.View.{items_of}
 use Rattle.json_room.specs.Lexemes.{EndsHere, tokens_at}
-use Rattle.json_room.specs.private.ItemTokens.{ReadsItems}
+use Rattle.json_room.specs.ValueStands.{ValueStands}
+use Rattle.json_room.specs.private.ItemTokens.{ReadsItems, ReadsMembers}
 use Rattle.json_room.specs.private.ValuesStand.{PassesTo, NamesTo, MembersUpTo}
-use Rattle.collection_items.specs.ItemLines.{StandsBetween, lines_between}
-use Rattle.collection_items.specs.JudgedItems.{AreJudged}
+use Rattle.collection_items.specs.ItemLines.{AreItemLines, StandsBetween, lines_between}
+use Rattle.collection_items.specs.JudgedItems.{AreJudged, HasValue}
+use Rattle.collection_items.specs.declared.collection_lines.MemberValue.{MemberValue}
 use Rattle.collection_items.specs.declared.document_walk.After.{After}
 use Rattle.collection_items.specs.declared.document_walk.After.TheVariants.{Close, Comma}
 use Rattle.collection_items.specs.declared.document_walk.MemberName.{MemberName}
@@ -59,3 +61,31 @@ EndsPair text end (Comma next) =
 EndsPair text end (Close next) =
     (end < next) × (next ≤ length text) × EndsHere text end
     × (read_key (tokens_at after_value text end) ≡ Some (None, tokens_at after_value text next))
+
+-- the value is an array, and the lines are those of its items
+pub record IsPutArray (text lines : List ℕ) (json : Data) : Type 0 where
+  pub items : List Data
+  pub is_array : json ≡ array (items_of items)
+  pub are_lines : AreItemLines text items lines
+
+-- the value of a member of the name `value` stands there; if it is an array, its lines were put
+abbrev pub PutsValue : List ℕ → ℕ → List ℕ → MemberValue → Type 0
+PutsValue text from lines value =
+    ValueStands 126 text from value.end (λ json. value.has_array ≡ true → IsPutArray text lines json)
+
+-- the value of a member stands there; where there are lines afterwards they are its own, by its name, or those before
+abbrev pub PassesValue : List ℕ → MemberName → Bool → List ℕ → List ℕ → MemberValue → Type 0
+PassesValue text member had old new value =
+    ValueStands 126 text member.place value.end (λ json. value.has_array ≡ true
+    → ((member.is_value ≡ true) × IsPutArray text new json)
+    ⊎ ((member.is_value ≡ false) × (had ≡ true) × (new ≡ old)))
+
+-- where there are lines, they are those of the array that is the last member of the name `value`
+abbrev pub HasLines : List ℕ → Bool → List ℕ → Members → Type 0
+HasLines text has lines found =
+    has ≡ true → (items : List Data) × HasValue (array (items_of items)) found × AreItemLines text items lines
+
+-- an object's members stand there, with its brace, and there are such lines
+pub record PutsMembers (text : List ℕ) (from : ℕ) (lines : List ℕ) (to : ℕ) : Type 0 where
+  pub within : to ≤ length text
+  pub read : ReadsMembers 126 (tokens_at fresh text from) (tokens_at after_value text to) (HasLines text true lines)

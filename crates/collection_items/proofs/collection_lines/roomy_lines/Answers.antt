@@ -1,37 +1,23 @@
-use Rattle.std.proofs.Common.{◌≡◌, ◌+◌, ◌<◌, ℕ, length, sym, ap, ◌∙◌, subst, arith}
-use Rattle.serde_json.specs.Data.{array}
-use Rattle.serde_json.specs.View.{items_of}
+use Rattle.std.proofs.Common.{◌≡◌, ◌+◌, ◌<◌, ℕ, IfSome, Option, length, sym, ap, ◌∙◌, subst, arith}
 use Rattle.json_room.specs.LexemesAt.{PassesSpaces}
 use Rattle.json_room.proofs.RoomLemmas.{other_default, within_byte}
-use Rattle.collection_items.specs.ItemLines.{StandsBetween}
-use Rattle.collection_items.proofs.WalkSteps.{array_read, document_read}
+use Rattle.collection_items.specs.private.DocumentWalk.{PutsMembers}
+use Rattle.collection_items.proofs.ItemLineSteps.{document_lines}
 use Rattle.collection_items.proofs.collection_lines.roomy_lines.Goals as goal
 
 pub past_blanks-requires : goal.past_blanks-requires
 past_blanks-requires c =
-    let d = c.args.document.now in
-    let root = c.past_blanks-root.result in
-    let put = c.in-Some-put_items.ensures in
-    let judged = put.array in
-    let read = array_read (StandsBetween d) d (root + 1) c.in-Some.bracket c.in-Some-put_items.end put.places c.in-Some.ensures judged in
-    (c.in-Some-object_end.ensures (root + 1) (array (items_of judged.items)) read).0
+    let put = subst (λ (end : Option ℕ). IfSome end (PutsMembers c.args.document.now (c.past_blanks-root.result + 1) c.put_members.new.lines.items)) c.in-Ok-Some.field-0-is c.in-Ok-Some.ensures in
+    put.within
 
 pub returns-then-past_blanks-text : goal.returns-then-past_blanks-text
 returns-then-past_blanks-text c =
     let d = c.args.document.now in
     let root = c.past_blanks-root.result in
-    let bracket = c.in-Some.bracket in
-    let put = c.in-Some-put_items.ensures in
-    let judged = put.array in
-    let end = c.in-Some-put_items.end in
-    let last = c.in-Some-object_end.last in
+    let last = c.in-Ok-Some.last in
+    let put = subst (λ (end : Option ℕ). IfSome end (PutsMembers d (root + 1) c.put_members.new.lines.items)) c.in-Ok-Some.field-0-is c.in-Ok-Some.ensures in
     let here = sym c.byte.ensures.here ∙ c.if-byte-ne123.false in
     let within : root < length d = within_byte d root 123 here (λ e. omega arith) in
-    let read = array_read (StandsBetween d) d (root + 1) bracket end put.places c.in-Some.ensures judged in
-    let ended = c.in-Some-object_end.ensures (root + 1) (array (items_of judged.items)) read in
     let long : c.past_blanks.result ≡ length d = c.if-past_blanks-text.true ∙ ap length c.text.ensures in
-    let blank = subst (λ (k : ℕ). PassesSpaces d last k) long c.past_blanks.ensures in (
-      judged.items,
-      document_read d root last judged.items c.past_blanks-root.ensures within (other_default d root 123 here (λ e. omega arith)) ended.1 blank,
-      (put.places, judged.judged, put.are_lines),
-    )
+    let blank = subst (λ (k : ℕ). PassesSpaces d last k) long c.past_blanks.ensures in
+    document_lines d root last c.put_members.new.lines.items c.past_blanks-root.ensures within (other_default d root 123 here (λ e. omega arith)) put blank

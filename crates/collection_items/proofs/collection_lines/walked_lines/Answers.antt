@@ -1,9 +1,7 @@
-use Rattle.std.proofs.Common.{◌≡◌, ◌+◌, ◌≤◌, ℕ, List, length, take, get_or, IfSome, sym, ap, ◌∙◌, subst, arith}
+use Rattle.std.proofs.Common.{◌≡◌, ◌+◌, ◌≤◌, ℕ, List, length, take, get_or, IfOk, IfSome, sym, ap, ◌∙◌, subst, arith}
 use Rattle.std.proofs.lemmas.List.{length-take-le}
-use Rattle.serde_json.specs.Data.{Data}
-use Rattle.collection_items.specs.JudgedItems.{IsArrayIn}
-use Rattle.collection_items.specs.ItemLines.{AreItemLines}
-use Rattle.collection_items.proofs.collection_lines.item_lines.Goals as goal
+use Rattle.collection_items.specs.ItemLines.{HasItemLines}
+use Rattle.collection_items.proofs.collection_lines.walked_lines.Goals as goal
 
 -- the text is as long as the document
 pub text_lines-requires-clause-front : goal.text_lines-requires-clause-front
@@ -34,5 +32,4 @@ pub returns-in-Some : goal.returns-in-Some
 returns-in-Some c =
     let count = length c.args.document.now in
     let same : c.in-Some.text.now ≡ c.args.document.now = c.in-Some.ensures ∙ ap (take count) c.as_slice-bytes.ensures.value ∙ c.copy_with_room.ensures.copied c.if-not-copy_with_room.false in
-    subst (λ (t : List ℕ). IfSome c.text_lines.result (λ lines. (items : List Data) × IsArrayIn t items
-    × AreItemLines t items lines.items)) same c.text_lines.ensures
+    subst (λ (t : List ℕ). IfOk c.text_lines.result (λ found. IfSome found (λ lines. HasItemLines t lines.items))) same c.text_lines.ensures
