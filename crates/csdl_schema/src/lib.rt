@@ -27,6 +27,7 @@ mod schema;
 mod slots;
 mod type_at;
 mod type_index;
+mod unread_types;
 
 pub use csdl_declarations::{SchemaFault, declared_in_order, numbers_of_their_type, types_by_name};
 pub use ids::{EnumId, TypeId};

@@ -14,6 +14,7 @@ use super::read_bases::find_bases;
 use super::resolve::place_kinds;
 use super::schema::Schema;
 use super::type_index::index_types;
+use super::unread_types::{DeclaredName, declared_names};
 use csdl_declarations::{DeclaredType, SchemaFault, declared_types};
 use serde_json::Value;
 use std::alloc::Global;
@@ -55,11 +56,16 @@ fn read_document(alloc: Global, document: &Value) -> Result<Schema, SchemaFault>
     ensures { Reads result (document_faults (view document.now)) (λ s. s ≡ declared_schema (view document.now)) }
 {
     let declared = declared_types(alloc, document)?;
-    Ok(join(alloc, declared)?)
+    let names = declared_names(alloc, declared.as_slice())?;
+    Ok(join(alloc, declared, names)?)
 }
 
 /// The schema of declared types, or the first fault in the bases of one.
-fn join(alloc: Global, declared: Vec<DeclaredType<'_>>) -> Result<Schema, SchemaFault>
+fn join(
+    alloc: Global,
+    declared: Vec<DeclaredType<'_>>,
+    names: Vec<DeclaredName>,
+) -> Result<Schema, SchemaFault>
     requires { AreInOrder (types_view declared.items) }
     ensures { Reads result (all_base_faults (types_view declared.entry.items))
         (λ s. s ≡ schema_of (types_view declared.entry.items)) }
@@ -73,5 +79,6 @@ fn join(alloc: Global, declared: Vec<DeclaredType<'_>>) -> Result<Schema, Schema
         types,
         chains,
         index_by_name,
+        declared_names: names,
     })
 }

@@ -1,5 +1,5 @@
-ghost use Rattle.std.specs.Prelude.{ℤ, ◌≡◌, ◌<◌, ◌↔◌, drop, length, map, slice_get, Some, IsTrue, IfSome, MatchOption, option_map};
-ghost use Rattle.csdl_schema.specs.SchemaModel.{enumeration_at, enumeration_named, index_named, is_enumeration, is_structured, name_of_kind, properties_at, slot_named, AreSlotsInOrder, HasDistinctNames, HoldsType, IsEntityAt, IsEnumerationByName, IsOneByName};
+ghost use Rattle.std.specs.Prelude.{ℤ, ◌≡◌, ◌<◌, ◌↔◌, drop, is_some, length, map, position, slice_get, Some, IsTrue, IfSome, MatchOption, option_map};
+ghost use Rattle.csdl_schema.specs.SchemaModel.{enumeration_at, enumeration_named, index_named, is_enumeration, is_named, is_structured, name_of_kind, properties_at, slot_named, AreSlotsInOrder, HasDistinctNames, HoldsType, IsEntityAt, IsEnumerationByName, IsOneByName};
 ghost use Rattle.edm_enumerations.specs.EnumerationModel.{member_of};
 ghost use Rattle.csdl_schema.specs.PropertyView.{AreFirstOf, IsReadAs};
 ghost use Rattle.csdl_schema.specs.EnumerationText.{has_flags, members_in, IsValueIn, IsOfUnderlying};
@@ -15,6 +15,7 @@ use super::type_at::{
     structured_name,
 };
 use super::type_index::place_named;
+use super::unread_types::DeclaredName;
 use indexmap::IndexMap;
 use std::marker::Model;
 
@@ -24,6 +25,8 @@ pub struct Schema {
     pub(crate) types: Vec<NamedType>,
     pub(crate) chains: Vec<Chain>,
     pub(crate) index_by_name: IndexMap<String, usize>,
+    /// Names of the types of properties, which no clause speaks of.
+    pub(crate) declared_names: Vec<DeclaredName>,
 }
 
 impl Model for Schema {
@@ -36,6 +39,19 @@ impl Model for Schema {
     ghost view = { schema_model };
 
     ghost invariant = { IsKeptSchema };
+}
+
+/// A type and its bases are at most so many.
+const MOST_TYPES: usize = 65;
+
+/// The type of a property that the type at an index declares itself, as the document names it.
+fn name_at<'n>(names: &'n [DeclaredName], owner: usize, property: &str) -> Option<&'n str> {
+    for name in names {
+        if name.owner == owner && name.property.as_str() == property {
+            return Some(name.type_name.as_str());
+        }
+    }
+    None
 }
 
 impl Schema {
@@ -85,6 +101,27 @@ impl Schema {
     {
         let id = TypeId::from_index(index);
         if self.holds(id) { Some(id) } else { None }
+    }
+
+    /// Returns whether the document declares a type of that name, of any kind. The name has its namespace or its alias.
+    pub fn declares(&self, name: &str) -> bool
+        ensures { result ≡ is_some (position (λ t. is_named t name.now) self.now.types) }
+    {
+        place_named(&self.index_by_name, name).is_some()
+    }
+
+    /// Returns the type of a property of the type or of a base of it, as the document names it.
+    ///
+    /// `None` is returned where values of that type are read as a primitive one. It has no clause: sentences are tested.
+    pub fn declared_type(&self, id: TypeId, property: &str) -> Option<&str> {
+        let mut owner = id.index();
+        for _ in 0..MOST_TYPES {
+            if let Some(name) = name_at(&self.declared_names, owner, property) {
+                return Some(name);
+            }
+            owner = self.types.get(owner)?.base()?;
+        }
+        None
     }
 
     /// Returns whether this schema has an entity or complex type at that index.

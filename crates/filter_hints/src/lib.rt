@@ -32,9 +32,11 @@ mod type_words;
 mod typing_advice;
 mod unknown_enumeration;
 mod unknown_property;
+mod unread_property;
 mod words_around;
 
 pub use advised_sentence::{advise, advise_with_edits};
 pub use edit::Edit;
 pub use filter_of::FilterOf;
 pub use hint::Hint;
+pub use near_names::NearNames;

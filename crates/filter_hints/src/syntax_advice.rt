@@ -5,6 +5,7 @@ use crate::filter_of::FilterOf;
 use crate::hint::Hint;
 use crate::standard_names::{is_function, is_infix_operator};
 use crate::trial::mends;
+use crate::unread_property::unread_in_words;
 use crate::words_around::{first_operand_end, last_word, open_parenthesis};
 use csdl_schema::PropertyKind;
 use fault_sentences::FaultClass;
@@ -176,9 +177,13 @@ fn beside_unread(
         return Ok(None);
     };
     match filter.schema.property(filter.id, slot).kind {
-        PropertyKind::Opaque => Ok(Some(format!(in alloc;
-            "Property '{name}' has a type that is not supported either, such as Edm.Decimal."
-        )?)),
+        PropertyKind::Opaque => match unread_in_words(alloc, filter.schema, filter.id, name)? {
+            Some(more) => Ok(Some(format!(in alloc;
+                "Property '{name}' has a type that is not supported either. {}",
+                more.as_str()
+            )?)),
+            None => Ok(None),
+        },
         _ => Ok(None),
     }
 }

@@ -10,6 +10,7 @@ use crate::standard_names::{FUNCTIONS, is_unsupported_function};
 use crate::syntax_tree::node_with;
 use crate::unknown_enumeration::enumeration_advice;
 use crate::unknown_property::{near_in_words, property_advice};
+use crate::unread_property::unread_advice;
 use odata_syntax::{SyntaxNode, parse_text};
 use std::alloc::{AllocError, Global};
 
@@ -74,9 +75,8 @@ fn node_advice(
         5 => Ok(after(operand_advice(alloc, filter, nodes, index)?)),
         10 => enumeration_advice(alloc, filter, nodes, index),
         11 => {
-            let more =
-                "Edm.Decimal, Edm.Double, Edm.Duration and others cannot be used in a filter.";
-            Ok(Advice::After(Hint::plain(alloc, String::from_str(alloc, more)?)))
+            let more = unread_advice(alloc, filter, nodes, index)?;
+            Ok(Advice::After(Hint::plain(alloc, more)))
         }
         _ => Ok(Advice::None),
     }

@@ -1,4 +1,4 @@
-//! What a document says of the types of properties, and whether there are these types.
+//! The types that a document names: of properties, whether there are these types, and which ones were meant.
 use crate::standard_types::{is_standard_type, standard_type_like};
 use csdl_schema::{Schema, TypeId};
 use serde_json::Value;
@@ -7,67 +7,59 @@ use std::alloc::{AllocError, Global};
 /// A type and its bases are at most so many.
 const MOST_TYPES: usize = 65;
 
-/// The object of a type in a document, by its whole name.
-fn type_object<'v>(document: &'v Value, name: &str) -> Option<&'v Value> {
+/// The declaration of a type in a document, by its whole name.
+fn declaration_of<'v>(document: &'v Value, name: &str) -> Option<&'v Value> {
     let (namespace, last) = name.rsplit_once('.')?;
     document.get(namespace)?.get(last)
 }
 
-/// Whether an object is the namespace of that name or alias.
-fn is_namespace(namespace: &str, content: &Value, name: &str) -> bool {
-    namespace == name || content.get("$Alias").and_then(Value::as_str) == Some(name)
-}
-
-/// Whether a document declares something by that name, with its namespace or its alias.
-fn is_declared(document: &Value, name: &str) -> bool {
-    let (Some((before, last)), Some(namespaces)) = (name.rsplit_once('.'), document.as_object())
-    else {
-        return false;
-    };
-    for (namespace, content) in namespaces {
-        if is_namespace(namespace, content, before) && content.get(last).is_some() {
-            return true;
-        }
-    }
-    false
-}
-
-/// Returns whether a name is that of a type of the document or of the standard. It has no clause: listings are tested.
-pub fn names_a_type(document: &Value, name: &str) -> bool {
-    is_standard_type(name) || is_declared(document, name)
+/// Returns whether a name is that of a type of the schema or of the standard. It has no clause: listings are tested.
+pub fn names_a_type(schema: &Schema, name: &str) -> bool {
+    is_standard_type(name) || schema.declares(name)
 }
 
 /// Whether the type itself declares the property, and not one of its bases.
 pub fn declares(document: &Value, type_name: &str, property: &str) -> bool {
-    match type_object(document, type_name) {
+    match declaration_of(document, type_name) {
         Some(owner) => owner.get(property).is_some(),
         None => false,
     }
 }
 
-/// Returns the text of `$Type` of a property that a type or one of its bases declares. `None` where there is none. It has
-/// no clause: listings are tested.
+/// The text of `$Type` of a property that a type or one of its bases declares. The document finds it by its name, where a
+/// schema goes over all names: a listing asks for many.
 pub fn declared_type<'v>(
     schema: &Schema,
     document: &'v Value,
     id: TypeId,
     property: &str,
 ) -> Option<&'v str> {
-    let mut owner = type_object(document, schema.type_name(id)?)?;
+    let mut owner = declaration_of(document, schema.type_name(id)?)?;
     for _ in 0..MOST_TYPES {
         if let Some(declared) = owner.get(property) {
             return declared.get("$Type").and_then(Value::as_str);
         }
         let base = schema.type_named(owner.get("$BaseType").and_then(Value::as_str)?)?;
-        owner = type_object(document, schema.type_name(base)?)?;
+        owner = declaration_of(document, schema.type_name(base)?)?;
     }
     None
 }
 
-/// The member of a namespace that has the same name, case apart.
+/// The kinds of members that declare types (CSDL JSON 4.01, sections 6, 9, 10 and 11).
+const KINDS: &[&str] = &["EntityType", "ComplexType", "EnumType", "TypeDefinition"];
+
+/// Whether a member of a namespace declares a type.
+fn declares_type(member: &Value) -> bool {
+    match member.get("$Kind").and_then(Value::as_str) {
+        Some(kind) => KINDS.iter().any(|other| *other == kind),
+        None => false,
+    }
+}
+
+/// The type of a namespace that has the same name, case apart.
 fn member_like<'v>(content: &'v Value, last: &str) -> Option<&'v str> {
     for (name, member) in content.as_object()? {
-        if member.get("$Kind").is_some() && name.eq_ignore_ascii_case(last) {
+        if declares_type(member) && name.eq_ignore_ascii_case(last) {
             return Some(name.as_str());
         }
     }

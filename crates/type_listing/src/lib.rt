@@ -15,6 +15,6 @@ mod standard_types;
 mod type_listing;
 mod type_object;
 
-pub use declared_types::{declared_type, names_a_type};
+pub use declared_types::names_a_type;
 pub use named_types::{TypeName, primitive_name, property_type_name, type_names};
 pub use type_listing::TypeListing;

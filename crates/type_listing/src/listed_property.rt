@@ -25,7 +25,7 @@ pub struct ListedProperty<'d> {
     pub warning: Option<String>,
 }
 
-/// That the `$Type` of a property of the type itself names no type.
+/// That the `$Type` of a property names no type, if the type itself declares the property.
 fn warning(
     alloc: Global,
     document: &Value,
@@ -33,7 +33,7 @@ fn warning(
     name: &str,
     type_name: &str,
 ) -> Result<Option<String>, AllocError> {
-    if declares(document, owner, name) && !names_a_type(document, type_name) {
+    if declares(document, owner, name) {
         Ok(Some(unknown_type(alloc, document, type_name)?))
     } else {
         Ok(None)
@@ -53,18 +53,23 @@ pub fn listed_property<'d>(
     let name = schema.slot_name(id, slot);
     let property = schema.property(id, slot);
     let known = property_type_name(schema, property);
-    let declared = declared_type(schema, document, id, name).unwrap_or("Edm.String");
+    let type_name = match known {
+        Some(known) => known,
+        None => declared_type(schema, document, id, name).unwrap_or("Edm.String"),
+    };
     let owner = schema.type_name(id).unwrap_or("");
     Ok(ListedProperty {
         name,
-        type_name: known.unwrap_or(declared),
+        type_name,
         collection: property.many,
         nullable: property.nullable,
         navigation: matches!(property.kind, PropertyKind::Navigation),
         read: known.is_some(),
         warning: match known {
-            Some(_) => None,
-            None => warning(alloc, document, owner, name, declared)?,
+            None if !names_a_type(schema, type_name) => {
+                warning(alloc, document, owner, name, type_name)?
+            }
+            _ => None,
         },
     })
 }
