@@ -4,6 +4,7 @@ mod FeedLemmas
 mod ItemLaws
 mod LineLaws
 mod IndexLaws
+mod PartLaws
 mod ReaderLaws
 mod RunLaws
 mod WriteLaws

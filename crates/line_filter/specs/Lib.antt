@@ -8,5 +8,7 @@ pub mod LineStreams
 pub mod Lines
 pub mod Logged
 pub mod Once
+pub mod PartRuns
+pub mod Parts
 pub mod PastFaults
 pub mod private

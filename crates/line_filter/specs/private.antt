@@ -3,6 +3,7 @@ pub mod Buffer
 pub mod Giving
 pub mod HeldBack
 pub mod LineReader
+pub mod PartText
 pub mod Passing
 pub mod Reading
 pub mod Waits

@@ -1,9 +1,13 @@
 //! Laws of readers, writers and judged lines, as the contracts of functions that do nothing.
-ghost use Rattle.std.specs.Prelude.{◌≡◌, ℕ, List, Some};
+ghost use Rattle.std.specs.Io.Cursor.{cursor_inner};
+ghost use Rattle.std.specs.Prelude.{◌≡◌, ◌<◌, ℕ, List, Some};
 ghost use Rattle.line_filter.specs.declared.tally.Tally.{Tally as TallyModel};
 ghost use Rattle.line_filter.specs.CallLogs.{NeverFails};
 ghost use Rattle.line_filter.specs.Kept.{Filters, LineClass, StopsAt};
 ghost use Rattle.line_filter.specs.LineItems.{IsFoundOf, lines};
+ghost use Rattle.line_filter.specs.Lines.{lines_of};
+ghost use Rattle.line_filter.specs.PartRuns.{ArePassed};
+ghost use Rattle.line_filter.specs.Parts.{IsSoughtOver, lines_up_to};
 ghost use Rattle.line_filter.specs.Once.{IsFaulty, JudgesItemsOnce, JudgesOnce, kind_found};
 ghost use Rattle.line_filter.specs.ItemIndexes.{indexed_items};
 
@@ -11,7 +15,7 @@ use super::device::{Reads, Writes};
 use super::judge::{Judge, SaysOfItems};
 use super::logged::Logged;
 use super::strategies::{ByRecord, Unfailing, Unlogged};
-use std::io::{Read, Sink, Write};
+use std::io::{Cursor, Read, Seek, Sink, Write};
 
 /// A slice of bytes reports, as a reader, what remains of it: all its bytes. A vector of bytes reports, as a writer,
 /// what it holds. So what [`filter_reader`](super::filter_reader) says of readers and writers that report their bytes
@@ -46,6 +50,27 @@ pub fn lines_stop_once<J: Judge>(judge: &J)
         → StopsAt (lines (J.says judge.now) bytes) other n f → ⊥ }
     ensures kept { (bytes text other : List ℕ) (m n : TallyModel) → Filters (lines (J.says judge.now) bytes) text m
         → Filters (lines (J.says judge.now) bytes) other n → (text ≡ other) × (m ≡ n) }
+{}
+
+/// A law: however many equal parts a text has, they have each of its lines once, in their order.
+pub fn parts_have_each_line_once()
+    ensures { (count : ℕ) (bytes : List ℕ) → 0 < count → lines_up_to count count bytes ≡ lines_of bytes }
+{}
+
+/// A law: what is kept of the parts of a text, one after another, is what is kept of the text.
+///
+/// The tallies add up, too. That is where the judge says judgments of one kind of each line, and no line is at fault.
+pub fn parts_keep_what_all_keeps<J: Judge>(judge: &J)
+    requires { JudgesOnce (J.says judge.now) }
+    ensures { (count : ℕ) (bytes text other : List ℕ) (m n : TallyModel) → 0 < count
+        → ArePassed (J.says judge.now) count count bytes text m
+        → Filters (lines (J.says judge.now) bytes) other n → (text ≡ other) × (m ≡ n) }
+{}
+
+/// A law: a cursor over a vector can be sought over its bytes, as [`part_of`](super::part_of) has it.
+pub fn cursors_can_be_sought(cursor: &Cursor<Vec<u8>>)
+    ensures { IsSoughtOver ⟦<Cursor<Vec<u8>> as Read>⟧.remaining ⟦<Cursor<Vec<u8>> as Seek>⟧.stream_position
+        ⟦<Cursor<Vec<u8>> as Seek>⟧.stream_bytes cursor.now (cursor_inner cursor.now).items }
 {}
 
 /// A law: of the items of a list at most one is the first at fault. Judgments of one kind are said of each item, and

@@ -25,25 +25,31 @@ mod line_runs;
 mod lines_in_memory;
 mod logged;
 mod output;
+mod part;
+mod part_reader;
 mod past_faults;
 mod run_stop;
 mod split;
 mod strategies;
 mod stream;
 mod tally;
+mod through_line;
 
 pub use call_log::CallLog;
 pub use called::{Called, Input, Output, Through};
 pub use device::{NotRead, NotWritten, Reads, Writes};
 pub use judge::{Judge, JudgeItem, Judgment, SaysOfItems};
 pub use laws::{
-    items_stop_once, lines_stop_once, slices_report_their_bytes, strategies_report_their_devices,
+    cursors_can_be_sought, items_stop_once, lines_stop_once, parts_have_each_line_once,
+    parts_keep_what_all_keeps, slices_report_their_bytes, strategies_report_their_devices,
 };
 pub use line_reader::{LineFault, LineReader};
 pub use line_runs::{filter_items, filter_reader};
 pub use lines_in_memory::filter_bytes;
 pub use logged::Logged;
 pub use output::write_out;
+pub use part::Part;
+pub use part_reader::{PartReader, part_of};
 pub use past_faults::{PastFaults, TakesFaults, filter_past_faults};
 pub use run_stop::RunStop;
 pub use strategies::{ByRecord, Unfailing, Unlogged};

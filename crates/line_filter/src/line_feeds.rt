@@ -56,7 +56,7 @@ pub(crate) fn first_line_feed(bytes: &[u8], from: usize, to: usize) -> Option<(u
 
 /// The first LF from one offset up to another.
 #[inline(never)]
-fn line_feed_of_few(bytes: &[u8], from: usize, to: usize) -> Option<usize>
+pub(crate) fn line_feed_of_few(bytes: &[u8], from: usize, to: usize) -> Option<usize>
     requires { (from ≤ to) × (to ≤ length bytes.now) }
     ensures { IsFirst (Passes (is_byte 10) bytes.now) from to result }
 {

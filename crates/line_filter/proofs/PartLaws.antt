@@ -1,0 +1,5 @@
+pub mod Begun
+pub mod Ends
+pub mod Readers
+pub mod Runs
+pub mod Text
