@@ -44,18 +44,20 @@ verb_app word = formed_app (with_rule (with_rule (with_rule (with_rule (new_app 
     (text_rule (codes "schema") true)) (text_rule (codes "type") true))
     (text_rule (codes "filter") false)) (text_rule (codes "query") false))
 
--- the subcommands of verbs: `check`, `explain`, and `filter`, which may name its rows, say what stands for now, say that
--- the rows are a collection and that its entities are written, and what becomes of those at fault
+-- the subcommands of verbs: `check`; `explain`, which may name a row and say what stands for now; and `filter`, which
+-- may name its rows, say what stands for now, say that the rows are a collection and that its entities are written,
+-- which part of the rows is read, and what becomes of those at fault
 abbrev pub check_app : App
 check_app = verb_app (codes "check")
 
 abbrev pub explain_app : App
-explain_app = verb_app (codes "explain")
+explain_app = with_rule (with_rule (with_rule (verb_app (codes "explain")) (text_rule (codes "rows") false))
+    (text_rule (codes "row") false)) (text_rule (codes "now") false)
 
 abbrev pub filter_app : App
-filter_app = counting_app (with_rule (with_rule (with_rule (with_rule (verb_app (codes "filter"))
+filter_app = counting_app (with_rule (with_rule (with_rule (with_rule (with_rule (verb_app (codes "filter"))
     (repeated_rule (codes "rows"))) (text_rule (codes "now") false)) (flag_rule (codes "collection")))
-    (flag_rule (codes "items")))
+    (flag_rule (codes "items"))) (text_rule (codes "part") false))
 
 -- the subcommand `types`, which has a schema and no filter
 abbrev pub types_app : App

@@ -65,8 +65,15 @@ abbrev pub whole_explain : List Text
 whole_explain =
     codes "odfilter" ∷ codes "explain" ∷ codes "--type" ∷ codes "N.T" ∷ codes "--schema=s" ∷ codes "--query=x" ∷ []
 
-abbrev pub explain_with_now : List Text
-explain_with_now = whole_explain ++ codes "--now=m" ∷ []
+-- with a row of a file, and what stands for now
+abbrev pub explain_with_row : List Text
+explain_with_row = whole_explain ++ codes "--rows" ∷ codes "r" ∷ codes "--row=2" ∷ codes "--now=m" ∷ []
+
+abbrev pub explain_with_collection : List Text
+explain_with_collection = whole_explain ++ codes "--collection" ∷ []
+
+abbrev pub filter_with_row : List Text
+filter_with_row = whole ++ codes "--row=2" ∷ []
 
 -- with how a run reports
 abbrev pub with_reports : List Text
@@ -79,6 +86,10 @@ with_more_rows = whole ++ codes "--rows" ∷ codes "q" ∷ codes "--count" ∷ c
 -- with a collection whose entities are written
 abbrev pub with_items : List Text
 with_items = with_collection ++ codes "--items" ∷ []
+
+-- with a part of its rows
+abbrev pub with_part : List Text
+with_part = whole ++ codes "--part" ∷ codes "2/4" ∷ []
 
 -- `check` with how it reports
 abbrev pub check_with_hints : List Text

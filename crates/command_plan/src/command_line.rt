@@ -1,4 +1,5 @@
 //! What a command line asks for.
+use line_filter::Part;
 use thiserror::Error;
 
 /// The work that the program is to do.
@@ -63,6 +64,10 @@ pub struct RunRequest<'a> {
     pub skip_faulty: bool,
     /// Whether the kept entities of a collection are written, instead of their indexes.
     pub items: bool,
+    /// The text of the number of the row that is explained.
+    pub row: Option<&'a str>,
+    /// The part of its one file of rows that is read, if not all of it.
+    pub part: Option<Part>,
 }
 
 /// A schema whose types are listed, and how.
@@ -102,7 +107,13 @@ pub enum RequestFault {
     /// The rows are a collection, and are to be counted or passed over as lines are.
     #[error("count and skip-faulty are for lines, not for a collection")]
     Collection,
-    /// The entities of a collection are to be written, and the rows are none.
+    /// The entities of a collection are to be written, but the rows are not one.
     #[error("items is for a collection")]
     Items,
+    /// The text of `--part` is no part.
+    #[error("part is not K/N with K from 1 to N")]
+    Part,
+    /// A part is asked for of rows that are not the lines of one file.
+    #[error("part is for the lines of one file of rows")]
+    PartOfRows,
 }

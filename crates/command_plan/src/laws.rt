@@ -3,7 +3,8 @@ ghost use Rattle.std.specs.Prelude.{◌≡◌, ◌∷◌, [], None, false, true,
 ghost use Rattle.clap.specs.Words.{all_of, fault_of, first_of};
 ghost use Rattle.clap.specs.declared.error.kind.ErrorKind.TheVariants as kind;
 ghost use Rattle.command_plan.specs.CommandLine.{AskForTypes, Enters, GivesNotOne, IsTaken, is_flag_set, odfilter_app};
-ghost use Rattle.command_plan.specs.CommandLine.{types_matches, verb_matches};
+ghost use Rattle.command_plan.specs.CommandLine.{option_value, types_matches, verb_matches};
+ghost use Rattle.command_plan.specs.PartTexts.{IsPartText};
 ghost use Rattle.command_plan.specs.Requests.{format_asked, hints_asked};
 ghost use Rattle.command_plan.specs.declared.command_line.Format.{Format};
 ghost use Rattle.command_plan.specs.declared.command_line.Hints.{Hints};
@@ -13,8 +14,9 @@ ghost use Rattle.command_plan.specs.WorkedLines as worked;
 /// Worked command lines. A whole line is taken with its four values and no collection, one with `--collection` or
 /// `--now` after it with that, and one with a query instead of the filter with that. Lines with neither and with both
 /// are taken and give not one of them. Lines without a schema and with an unknown option are not taken. `check` takes a
-/// filter, and no rows, no moment and no collection; `explain` a query, and no moment. The program reports its version,
-/// its subcommand has none of its own, and help goes before what is missing.
+/// filter, and no rows, no moment and no collection; `explain` a query, a file of rows, a row's number and a moment, and
+/// no collection; `filter` takes no row's number. The program reports its version, its subcommand has none of its own,
+/// and help goes before what is missing.
 pub fn lines_by_example()
     ensures taken { IsTaken worked.whole }
     ensures schema { first_of (codes "schema") (verb_matches worked.whole) ≡ Some (codes "s") }
@@ -43,14 +45,23 @@ pub fn lines_by_example()
     ensures explain_taken { IsTaken worked.whole_explain }
     ensures explain_enters { Enters worked.whole_explain Verb.Explain }
     ensures explain_query { first_of (codes "query") (verb_matches worked.whole_explain) ≡ Some (codes "x") }
-    ensures explain_has_no_now { fault_of odfilter_app worked.explain_with_now ≡ kind.UnknownArgument ∷ [] }
+    ensures explain_row_taken { IsTaken worked.explain_with_row }
+    ensures explain_rows { option_value Verb.Explain (codes "rows") (verb_matches worked.explain_with_row)
+        ≡ Some (codes "r") }
+    ensures explain_row { option_value Verb.Explain (codes "row") (verb_matches worked.explain_with_row)
+        ≡ Some (codes "2") }
+    ensures explain_now { option_value Verb.Explain (codes "now") (verb_matches worked.explain_with_row)
+        ≡ Some (codes "m") }
+    ensures explain_has_no_collection { fault_of odfilter_app worked.explain_with_collection
+        ≡ kind.UnknownArgument ∷ [] }
+    ensures filter_has_no_row { fault_of odfilter_app worked.filter_with_row ≡ kind.UnknownArgument ∷ [] }
     ensures help { fault_of odfilter_app worked.help_of_filter ≡ kind.DisplayHelp ∷ [] }
 {}
 
 /// Worked command lines with options of reports and of rows. A line with `--hints` and `--format` is taken with their
 /// values, one with a second `--rows` with both files and the first as the plan's, and with `--count` and
-/// `--skip-faulty` with these. A collection's entities are written where `--items` is given, and only there. `check` takes
-/// any word after `--hints`, of which no hints are asked.
+/// `--skip-faulty` with these. A collection's entities are written where `--items` is given, and only there. A part of
+/// the rows is asked for by the text after `--part`. `check` takes any word after `--hints`, of which no hints are asked.
 pub fn reports_by_example()
     ensures taken { IsTaken worked.with_reports }
     ensures hints { hints_asked (first_of (codes "hints") (verb_matches worked.with_reports)) ≡ Some Hints.Never }
@@ -64,6 +75,9 @@ pub fn reports_by_example()
     ensures items_taken { IsTaken worked.with_items }
     ensures items { is_flag_set Verb.Filter (codes "items") (verb_matches worked.with_items) ≡ true }
     ensures no_items { is_flag_set Verb.Filter (codes "items") (verb_matches worked.with_collection) ≡ false }
+    ensures part_taken { IsTaken worked.with_part }
+    ensures part { first_of (codes "part") (verb_matches worked.with_part) ≡ Some (codes "2/4") }
+    ensures part_text { IsPartText (codes "2/4") 2 4 }
     ensures check_taken { IsTaken worked.check_with_hints }
     ensures no_hints { hints_asked (first_of (codes "hints") (verb_matches worked.check_with_hints)) ≡ None }
 {}

@@ -11,6 +11,7 @@
 
 pub mod command_line;
 mod laws;
+mod part_texts;
 mod planner;
 mod requests;
 

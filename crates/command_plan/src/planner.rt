@@ -19,7 +19,7 @@ const VERSION: &str = "0.1.0";
 const AFTER_HELP: &str = "\
 Examples:
   odfilter check --schema schema.json --type Mini.Item --filter \"Name eq 'a'\"
-  odfilter explain --schema schema.json --type Mini.Item --filter \"Name eq 'a'\"
+  odfilter explain --schema schema.json --type Mini.Item --filter \"Name eq 'a'\" --rows rows.json --row 2
   odfilter filter --schema schema.json --type Mini.Item --filter \"Name eq 'a'\" --rows rows.json
   odfilter filter --schema schema.json --type Mini.Item --query '$filter=ID%20eq%201' <rows.json
   odfilter filter --schema schema.json --type Mini.Item --filter \"Name eq 'a'\" --collection <answer.json
@@ -33,6 +33,14 @@ Statuses:
   4  a row was refused, or its evaluation failed
   5  a file or stream could not be read or written
   6  out of memory";
+
+/// What is said of the option that names rows.
+const ROWS_HELP: &str =
+    "Rows, one JSON object a line; filter takes several files; - and none are standard input";
+
+/// What is said of the option that gives the moment.
+const NOW_HELP: &str =
+    "What now() stands for, as 2020-01-01T00:00:00Z; needed by a filter that calls it";
 
 /// An option that takes a text.
 fn text_option<'a>(alloc: Global, name: &'a str, value: &'a str, help: &'a str) -> Arg<'a>
@@ -83,7 +91,7 @@ fn with_form<'a>(alloc: Global, command: Command<'a>) -> Result<Command<'a>, All
         alloc,
         "format",
         "FORM",
-        "How faults and what check and explain find are written: text or json",
+        "How faults and what is found are written: text or json",
     );
     command.arg(hints)?.arg(format)
 }
@@ -135,34 +143,31 @@ fn check_command<'a>(alloc: Global) -> Result<Command<'a>, AllocError>
     )
 }
 
-/// The subcommand `explain`.
+/// The subcommand `explain`, which may name a row that it says each node's value on, and what stands for now.
 fn explain_command<'a>(alloc: Global) -> Result<Command<'a>, AllocError>
     ensures { IfOk result (IsApp explain_app) }
 {
-    verb_command(
+    let rows = text_option(alloc, "rows", "FILE", ROWS_HELP);
+    let row = text_option(
         alloc,
-        "explain",
-        "Says of each node of a filter where it stands, what it is, and its type",
-    )
+        "row",
+        "NUMBER",
+        "The line of the row that is explained, from 1; the first one of --rows without this",
+    );
+    let now = text_option(alloc, "now", "MOMENT", NOW_HELP);
+    let about =
+        "Says of each node of a filter where it stands, what it is, its type, and its value on a row";
+    let command = verb_command(alloc, "explain", about)?;
+    command.arg(rows)?.arg(row)?.arg(now)
 }
 
-/// The subcommand `filter`, which may name its rows, say what stands for now, say that the rows are a collection, and ask
-/// for its entities.
+/// The subcommand `filter`, which may name its rows, say what stands for now, say that the rows are a collection, ask
+/// for its entities, and for one part of the rows.
 fn filter_command<'a>(alloc: Global) -> Result<Command<'a>, AllocError>
     ensures { IfOk result (IsApp filter_app) }
 {
-    let rows = repeated_option(
-        alloc,
-        "rows",
-        "FILE",
-        "Rows, one JSON object a line, of one file or several; - and none are standard input",
-    );
-    let now = text_option(
-        alloc,
-        "now",
-        "MOMENT",
-        "What now() stands for, as 2020-01-01T00:00:00Z; needed by a filter that calls it",
-    );
+    let rows = repeated_option(alloc, "rows", "FILE", ROWS_HELP);
+    let now = text_option(alloc, "now", "MOMENT", NOW_HELP);
     let collection = flag(
         alloc,
         "collection",
@@ -173,12 +178,20 @@ fn filter_command<'a>(alloc: Global) -> Result<Command<'a>, AllocError>
         "items",
         "Of a collection the kept entities are written, a line each, instead of their indexes",
     );
-    let about = "Writes the rows whose outcome is true, as they come";
-    let command = verb_command(alloc, "filter", about)?;
-    with_counts(
+    let part = text_option(
         alloc,
-        command.arg(rows)?.arg(now)?.arg(collection)?.arg(items)?,
-    )
+        "part",
+        "K/N",
+        "Of a file of rows the lines that begin in the K-th of N equal parts",
+    );
+    let about = "Writes the rows whose outcome is true, as they come";
+    let command = verb_command(alloc, "filter", about)?
+        .arg(rows)?
+        .arg(now)?
+        .arg(collection)?
+        .arg(items)?
+        .arg(part)?;
+    with_counts(alloc, command)
 }
 
 /// The command with the flags of runs over rows that may be at fault.
@@ -243,25 +256,25 @@ fn fault_of(error: Error) -> PlanFault
     }
 }
 
-/// The rows file, which `filter` alone may name.
+/// The rows file, which `filter` and `explain` may name.
 fn rows_file<'a>(verb: Verb, matches: &ArgMatches<'a>) -> Option<&'a str>
     ensures { option_map (λ s. s.now) result
         ≡ option_value verb (codes "rows") (rows_of (found_of matches.now)) }
 {
     match verb {
-        Verb::Filter => matches.get_str("rows"),
-        Verb::Check | Verb::Explain => None,
+        Verb::Filter | Verb::Explain => matches.get_str("rows"),
+        Verb::Check => None,
     }
 }
 
-/// What stands for now, which `filter` alone may say.
+/// What stands for now, which `filter` and `explain` may say.
 fn moment_text<'a>(verb: Verb, matches: &ArgMatches<'a>) -> Option<&'a str>
     ensures { option_map (λ s. s.now) result
         ≡ option_value verb (codes "now") (rows_of (found_of matches.now)) }
 {
     match verb {
-        Verb::Filter => matches.get_str("now"),
-        Verb::Check | Verb::Explain => None,
+        Verb::Filter | Verb::Explain => matches.get_str("now"),
+        Verb::Check => None,
     }
 }
 
@@ -305,14 +318,36 @@ fn writes_items(verb: Verb, matches: &ArgMatches<'_>) -> bool
     }
 }
 
-/// The files of rows that were given, which `filter` alone may name; `None` without one.
+/// The text of the number of the row that is explained, which `explain` alone may say.
+fn explained_row<'a>(verb: Verb, matches: &ArgMatches<'a>) -> Option<&'a str>
+    ensures { option_map (λ s. s.now) result
+        ≡ option_value verb (codes "row") (rows_of (found_of matches.now)) }
+{
+    match verb {
+        Verb::Explain => matches.get_str("row"),
+        Verb::Check | Verb::Filter => None,
+    }
+}
+
+/// Which part of the rows is asked for, which `filter` alone may say.
+fn part_text<'a>(verb: Verb, matches: &ArgMatches<'a>) -> Option<&'a str>
+    ensures { option_map (λ s. s.now) result
+        ≡ option_value verb (codes "part") (rows_of (found_of matches.now)) }
+{
+    match verb {
+        Verb::Filter => matches.get_str("part"),
+        Verb::Check | Verb::Explain => None,
+    }
+}
+
+/// The files of rows that were given, which `filter` and `explain` may name; `None` without one.
 fn given_files<'m, 'a>(verb: Verb, matches: &'m ArgMatches<'a>) -> Option<&'m [&'a str]>
     ensures { unwrap_or (option_map (λ names. map (λ s. s.now) names.now) result) []
         ≡ option_values verb (codes "rows") (rows_of (found_of matches.now)) }
 {
     match verb {
-        Verb::Filter => matches.get_raw("rows"),
-        Verb::Check | Verb::Explain => None,
+        Verb::Filter | Verb::Explain => matches.get_raw("rows"),
+        Verb::Check => None,
     }
 }
 
@@ -366,6 +401,8 @@ pub(crate) struct Line<'a> {
     pub(crate) count: bool,
     pub(crate) skip_faulty: bool,
     pub(crate) items: bool,
+    pub(crate) row: Option<&'a str>,
+    pub(crate) part: Option<&'a str>,
 }
 
 /// A command line that asks for the types of a schema, and the texts that say how these are reported.
@@ -408,6 +445,8 @@ fn line_of<'a>(
             count: is_counted(verb, matches),
             skip_faulty: skips_faulty(verb, matches),
             items: writes_items(verb, matches),
+            row: explained_row(verb, matches),
+            part: part_text(verb, matches),
         })),
         Err(_) => Err(PlanFault::Memory),
     }

@@ -1,11 +1,14 @@
 //! Command lines, read whole: a plan, and how a run of it reports.
-ghost use Rattle.std.specs.Prelude.{◌≡◌, ◌&&◌, ◌||◌, List, MatchResult, map, not, option_map};
+ghost use Rattle.std.specs.Prelude.{◌≡◌, ◌&&◌, ◌||◌, List, MatchResult, is_some, map, not, option_map};
 ghost use Rattle.clap.specs.Words.{Text};
+ghost use Rattle.command_plan.specs.PartTexts.{are_lines_of_a_file};
 ghost use Rattle.command_plan.specs.Requests.{IsNoRequest, IsRequestOf, format_asked, hints_asked};
 ghost use Rattle.command_plan.specs.private.Planner.{IsLineOf, IsTypesLineOf};
 
 use super::command_line::{Format, Hints, Request, RequestFault, RunRequest, TypesRequest};
+use super::part_texts::{is_one_file, part_asked};
 use super::planner::{Entered, Line, TypesLine, read_line};
+use line_filter::Part;
 use std::alloc::Global;
 
 /// When hints are wanted, by the text of the option; `None` if it is none of its words.
@@ -49,11 +52,26 @@ fn asks_for_both(line: &Line<'_>) -> bool
     line.plan.collection && (line.count || line.skip_faulty)
 }
 
-/// Whether the entities of a collection are to be written, and the rows are none.
+/// Whether the entities of a collection are to be written, but the rows are not one.
 fn lacks_collection(line: &Line<'_>) -> bool
     ensures { result ≡ (line.now.items && not line.now.plan.collection) }
 {
     line.items && !line.plan.collection
+}
+
+/// Whether the rows are the lines of one file.
+fn reads_a_file(line: &Line<'_>) -> bool
+    ensures { result ≡ are_lines_of_a_file line.now.plan.collection (map (λ s. s.now) line.now.rows.items) }
+{
+    !line.plan.collection && is_one_file(line.rows.as_slice())
+}
+
+/// Whether a part is asked for, and of other rows than the lines of one file.
+fn lacks_lines(line: &Line<'_>, part: &Option<Part>) -> bool
+    ensures { result ≡ (is_some part.now
+        && not (are_lines_of_a_file line.now.plan.collection (map (λ s. s.now) line.now.rows.items))) }
+{
+    part.is_some() && !reads_a_file(line)
 }
 
 /// The request of a line with a plan.
@@ -73,6 +91,12 @@ fn run_request<'a>(line: Line<'a>) -> Result<Request<'a>, RequestFault>
     if lacks_collection(&line) {
         return Err(RequestFault::Items);
     }
+    let Some(part) = part_asked(line.part) else {
+        return Err(RequestFault::Part);
+    };
+    if lacks_lines(&line, &part) {
+        return Err(RequestFault::PartOfRows);
+    }
     Ok(Request::Run(RunRequest {
         plan: line.plan,
         hints,
@@ -81,6 +105,8 @@ fn run_request<'a>(line: Line<'a>) -> Result<Request<'a>, RequestFault>
         count: line.count,
         skip_faulty: line.skip_faulty,
         items: line.items,
+        row: line.row,
+        part,
     }))
 }
 
@@ -104,8 +130,8 @@ fn types_request<'a>(line: TypesLine<'a>) -> Result<Request<'a>, RequestFault>
 
 /// Reads a command line, the program's name first.
 ///
-/// A fault of its plan is as [`plan`](crate::plan) has it, and is reported before `Hints`, `Format`, `Collection` and
-/// `Items`. A line of `types` has no plan, and no fault of one.
+/// A fault of its plan is as [`plan`](crate::plan) has it, and is reported before `Hints`, `Format`, `Collection`,
+/// `Items`, `Part` and `PartOfRows`. A line of `types` has no plan, and no fault of one.
 #[inline(never)]
 pub fn request<'a>(alloc: Global, words: &'a [&'a str]) -> Result<Request<'a>, RequestFault>
     ensures { MatchResult result (IsRequestOf (map (λ s. s.now) words.entry.now))

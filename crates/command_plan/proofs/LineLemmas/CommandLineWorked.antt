@@ -3,7 +3,7 @@ use Rattle.std.proofs.Common.{◌≡◌, [], ◌∷◌, false, true, Some, refl,
 use Rattle.clap.specs.Words.{fault_of, first_of}
 use Rattle.clap.specs.declared.error.kind.ErrorKind.TheVariants as kind
 use Rattle.clap.proofs.OnLiterals.{clap_on_literals}
-use Rattle.command_plan.specs.CommandLine.{Enters, GivesNotOne, IsTaken, is_flag_set, verb_matches, odfilter_app}
+use Rattle.command_plan.specs.CommandLine.{Enters, GivesNotOne, IsTaken, is_flag_set, option_value, verb_matches, odfilter_app}
 use Rattle.command_plan.specs.declared.command_line.Verb.{Verb}
 use Rattle.command_plan.specs.WorkedLines as worked
 
@@ -119,6 +119,26 @@ pub explain_query : first_of (codes "query") (verb_matches worked.whole_explain)
 unfolding clap_on_literals
 explain_query = refl
 
-pub explain_now : fault_of odfilter_app worked.explain_with_now ≡ kind.UnknownArgument ∷ []
+pub explain_row_taken : IsTaken worked.explain_with_row
+unfolding clap_on_literals
+explain_row_taken = refl
+
+pub explain_rows : option_value Verb.Explain (codes "rows") (verb_matches worked.explain_with_row) ≡ Some (codes "r")
+unfolding clap_on_literals
+explain_rows = refl
+
+pub explain_row : option_value Verb.Explain (codes "row") (verb_matches worked.explain_with_row) ≡ Some (codes "2")
+unfolding clap_on_literals
+explain_row = refl
+
+pub explain_now : option_value Verb.Explain (codes "now") (verb_matches worked.explain_with_row) ≡ Some (codes "m")
 unfolding clap_on_literals
 explain_now = refl
+
+pub explain_collection : fault_of odfilter_app worked.explain_with_collection ≡ kind.UnknownArgument ∷ []
+unfolding clap_on_literals
+explain_collection = refl
+
+pub filter_row : fault_of odfilter_app worked.filter_with_row ≡ kind.UnknownArgument ∷ []
+unfolding clap_on_literals
+filter_row = refl

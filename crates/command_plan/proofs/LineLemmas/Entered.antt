@@ -9,7 +9,7 @@ use Rattle.clap.specs.declared.builder.command.Command.{Command}
 use Rattle.clap.specs.declared.parser.matches.ArgMatches.{ArgMatches}
 use Rattle.clap.specs.declared.parser.matches.ArgMatches.TheViews.{out-ArgMatches, out-SubCommand}
 use Rattle.clap.proofs.OnLiterals.{clap_on_literals}
-use Rattle.command_plan.specs.CommandLine.{GivesNotOne, HasValues, IsRefusedBy, IsTaken, LacksOneOf, is_flag_set, matches_if, matches_if_verb, odfilter_app, option_values, types_matches, verb_matches, verb_word}
+use Rattle.command_plan.specs.CommandLine.{GivesNotOne, HasValues, IsRefusedBy, IsTaken, LacksOneOf, is_flag_set, matches_if, matches_if_verb, odfilter_app, option_value, option_values, verb_matches, verb_word}
 use Rattle.command_plan.specs.declared.command_line.PlanFault.{PlanFault}
 use Rattle.command_plan.specs.declared.command_line.PlanFault.TheVariants.{Clap, Memory, OneOf}
 use Rattle.command_plan.specs.declared.command_line.Verb.{Verb}
@@ -92,6 +92,8 @@ planned_by words verb rows (Ok (Run line)) taken entered here is_verb texts =
       count = texts.count ∙ ap (λ r. is_flag_set line.plan.verb (codes "count") r) (sym found);
       skip_faulty = texts.skip_faulty ∙ ap (λ r. is_flag_set line.plan.verb (codes "skip-faulty") r) (sym found);
       items = texts.items ∙ ap (λ r. is_flag_set line.plan.verb (codes "items") r) (sym found);
+      row = texts.row ∙ ap (λ r. option_value line.plan.verb (codes "row") r) (sym found);
+      part = texts.part ∙ ap (λ r. option_value line.plan.verb (codes "part") r) (sym found);
     }
 planned_by words verb rows (Ok (Types line)) taken entered here is_verb texts = absurd is_verb
 planned_by words verb rows (Err OneOf) taken entered here is_verb texts =

@@ -1,8 +1,9 @@
 -- Worked command lines with options of reports and of rows.
-use Rattle.std.proofs.Common.{◌≡◌, [], ◌∷◌, false, true, None, Some, refl, codes}
+use Rattle.std.proofs.Common.{◌≡◌, [], ◌∷◌, false, true, None, Some, refl, codes, lit<, lit≤}
 use Rattle.clap.specs.Words.{all_of, first_of}
 use Rattle.clap.proofs.OnLiterals.{clap_on_literals}
 use Rattle.command_plan.specs.CommandLine.{IsTaken, is_flag_set, verb_matches}
+use Rattle.command_plan.specs.PartTexts.{IsPartText}
 use Rattle.command_plan.specs.Requests.{format_asked, hints_asked}
 use Rattle.command_plan.specs.declared.command_line.Format.{Format}
 use Rattle.command_plan.specs.declared.command_line.Hints.{Hints}
@@ -64,3 +65,19 @@ items_set = refl
 pub items_unset : is_flag_set Verb.Filter (codes "items") (verb_matches worked.with_collection) ≡ false
 unfolding clap_on_literals
 items_unset = refl
+
+pub part_taken : IsTaken worked.with_part
+unfolding clap_on_literals
+part_taken = refl
+
+pub part_text : first_of (codes "part") (verb_matches worked.with_part) ≡ Some (codes "2/4")
+unfolding clap_on_literals
+part_text = refl
+
+pub part_is : IsPartText (codes "2/4") 2 4
+part_is = record {
+  number_text = record { digits = (lit< tt, (lit< tt, tt)); value = refl; fits = lit< tt };
+  count_text = record { digits = (lit< tt, (lit< tt, tt)); value = refl; fits = lit< tt };
+  first = lit≤ tt;
+  last = lit≤ tt;
+}

@@ -1,12 +1,13 @@
 -- What the steps of reading a command line say to one another. Private clauses alone cite these.
-use Rattle.std.specs.Prelude.{◌≡◌, List, [], codes, false, map, option_map, unwrap_or}
+use Rattle.std.specs.Prelude.{◌≡◌, List, [], IsSomeAnd, Option, codes, false, map, option_map, unwrap_or}
 use Rattle.clap.specs.Words.{App, Row, Text, app_of, first_of, kind_of}
 use Rattle.clap.specs.declared.builder.command.Command.{Command}
 use Rattle.clap.specs.declared.builder.command.Command.TheViews.{out-Command}
 use Rattle.clap.specs.declared.error.Error.{Error}
 use Rattle.clap.specs.declared.error.kind.ErrorKind.TheVariants.{OutOfMemory}
-use Rattle.command_plan.specs.CommandLine.{AskForTypes, HasValues, IsPlanOf, LacksOneOf, is_flag_set, option_values}
-use Rattle.command_plan.specs.CommandLine.{types_matches, verb_matches}
+use Rattle.command_plan.specs.CommandLine.{AskForTypes, HasValues, IsPlanOf, LacksOneOf, is_flag_set, option_value}
+use Rattle.command_plan.specs.CommandLine.{option_values, types_matches, verb_matches}
+use Rattle.command_plan.specs.PartTexts.{IsNoPart}
 use Rattle.command_plan.specs.declared.command_line.PlanFault.{PlanFault}
 use Rattle.command_plan.specs.declared.command_line.PlanFault.TheVariants.{Clap, OneOf, Memory}
 use Rattle.command_plan.specs.declared.command_line.Verb.{Verb}
@@ -39,6 +40,8 @@ pub record HasTexts (found : List Row) (line : Line) : Type 0 where
   pub count : line.count ≡ is_flag_set line.plan.verb (codes "count") found
   pub skip_faulty : line.skip_faulty ≡ is_flag_set line.plan.verb (codes "skip-faulty") found
   pub items : line.items ≡ is_flag_set line.plan.verb (codes "items") found
+  pub row : option_map (λ s. s.now) line.row ≡ option_value line.plan.verb (codes "row") found
+  pub part : option_map (λ s. s.now) line.part ≡ option_value line.plan.verb (codes "part") found
 
 -- the line of a verb has these texts
 abbrev pub HasVerbTexts : List Row → Entered → Type 0
@@ -71,6 +74,8 @@ pub record IsLineOf (words : List Text) (line : Line) : Type 0 where
   pub count : line.count ≡ is_flag_set line.plan.verb (codes "count") (verb_matches words)
   pub skip_faulty : line.skip_faulty ≡ is_flag_set line.plan.verb (codes "skip-faulty") (verb_matches words)
   pub items : line.items ≡ is_flag_set line.plan.verb (codes "items") (verb_matches words)
+  pub row : option_map (λ s. s.now) line.row ≡ option_value line.plan.verb (codes "row") (verb_matches words)
+  pub part : option_map (λ s. s.now) line.part ≡ option_value line.plan.verb (codes "part") (verb_matches words)
 
 -- the words are this line of `types`
 pub record IsTypesLineOf (words : List Text) (line : TypesLine) : Type 0 where
@@ -81,3 +86,7 @@ pub record IsTypesLineOf (words : List Text) (line : TypesLine) : Type 0 where
 abbrev pub IsEnteredBy : List Text → Entered → Type 0
 IsEnteredBy words (Entered.Run line) = IsLineOf words line
 IsEnteredBy words (Entered.Types line) = IsTypesLineOf words line
+
+-- there is a text, and it asks for no part
+abbrev pub AsksForNoPart : Option Text → Type 0
+AsksForNoPart text = IsSomeAnd text IsNoPart

@@ -85,5 +85,20 @@ returns-clause-explain_enters c = line.explain_enters
 pub returns-clause-explain_query : goal.returns-clause-explain_query
 returns-clause-explain_query c = line.explain_query
 
-pub returns-clause-explain_has_no_now : goal.returns-clause-explain_has_no_now
-returns-clause-explain_has_no_now c = line.explain_now
+pub returns-clause-explain_row_taken : goal.returns-clause-explain_row_taken
+returns-clause-explain_row_taken c = line.explain_row_taken
+
+pub returns-clause-explain_rows : goal.returns-clause-explain_rows
+returns-clause-explain_rows c = line.explain_rows
+
+pub returns-clause-explain_row : goal.returns-clause-explain_row
+returns-clause-explain_row c = line.explain_row
+
+pub returns-clause-explain_now : goal.returns-clause-explain_now
+returns-clause-explain_now c = line.explain_now
+
+pub returns-clause-explain_has_no_collection : goal.returns-clause-explain_has_no_collection
+returns-clause-explain_has_no_collection c = line.explain_collection
+
+pub returns-clause-filter_has_no_row : goal.returns-clause-filter_has_no_row
+returns-clause-filter_has_no_row c = line.filter_row

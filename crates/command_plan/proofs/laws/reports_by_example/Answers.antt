@@ -42,3 +42,12 @@ returns-clause-items c = line.items_set
 
 pub returns-clause-no_items : goal.returns-clause-no_items
 returns-clause-no_items c = line.items_unset
+
+pub returns-clause-part_taken : goal.returns-clause-part_taken
+returns-clause-part_taken c = line.part_taken
+
+pub returns-clause-part : goal.returns-clause-part
+returns-clause-part c = line.part_text
+
+pub returns-clause-part_text : goal.returns-clause-part_text
+returns-clause-part_text c = line.part_is

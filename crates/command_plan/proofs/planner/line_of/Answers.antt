@@ -14,4 +14,6 @@ returns-in-Ok-rows_files-clause-values c =
       count = rw c.in-Ok.ensures.verb c.is_counted.ensures;
       skip_faulty = rw c.in-Ok.ensures.verb c.skips_faulty.ensures;
       items = rw c.in-Ok.ensures.verb c.writes_items.ensures;
+      row = rw c.in-Ok.ensures.verb c.explained_row.ensures;
+      part = rw c.in-Ok.ensures.verb c.part_text.ensures;
     }

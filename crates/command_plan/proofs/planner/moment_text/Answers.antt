@@ -1,10 +1,9 @@
 use Rattle.std.proofs.Common.{◌∙◌, sym, codes}
 use Rattle.clap.specs.Words.{found_of, rows_of}
-use Rattle.command_plan.proofs.LineLemmas.PlanLemmas.{now_of_filter, text_found}
+use Rattle.command_plan.proofs.LineLemmas.PlanLemmas.{now_given, text_found}
 use Rattle.command_plan.proofs.planner.moment_text.Goals as goal
 
 pub returns-in-Filter : goal.returns-in-Filter
 returns-in-Filter c =
     let found = found_of c.args.matches.now in
-    rw c.in-Filter.is (text_found found (codes "now") c.get_str.result c.get_str.ensures
-    ∙ sym (now_of_filter (rows_of found)))
+    text_found found (codes "now") c.get_str.result c.get_str.ensures ∙ sym (now_given c.args.verb (rows_of found) c.in-Filter.is)

@@ -1,8 +1,8 @@
-use Rattle.std.proofs.Common.{◌∙◌, ap, codes, true}
+use Rattle.std.proofs.Common.{codes, true}
 use Rattle.clap.specs.Words.{new_app}
 use Rattle.command_plan.specs.CommandLine.{text_rule}
 use Rattle.command_plan.specs.private.Planner.{IsApp}
-use Rattle.command_plan.proofs.LineLemmas.PlanLemmas.{app_about, app_after_help, app_arg, required_rule}
+use Rattle.command_plan.proofs.LineLemmas.PlanLemmas.{app_about, app_after_help, app_arg, required_local, required_rule}
 use Rattle.command_plan.proofs.planner.types_command.Goals as goal
 
 pub returns : goal.returns
@@ -10,7 +10,8 @@ returns c =
     let schema_rule = text_rule (codes "schema") true in
     let schema_is = required_rule c.text_option.result c.required-schema.result (codes "schema")
     c.text_option.ensures.rule c.required-schema.ensures in
-    let schema_local = ap (λ a. a.global) c.required-schema.ensures ∙ c.text_option.ensures.local in
+    let schema_local = required_local c.text_option.result c.required-schema.result
+    c.text_option.ensures.local c.required-schema.ensures in
     let start : IsApp (new_app (codes "types")) c.new.result =
     record { whole = c.new.ensures.app; local = c.new.ensures.local } in
     let about = app_about c.new.result c.about.result _ _ c.about.ensures start in

@@ -1,8 +1,8 @@
-use Rattle.std.proofs.Common.{◌∙◌, ap, codes, true, false}
+use Rattle.std.proofs.Common.{codes, true, false}
 use Rattle.clap.specs.Words.{new_app}
 use Rattle.command_plan.specs.CommandLine.{text_rule}
 use Rattle.command_plan.specs.private.Planner.{IsApp}
-use Rattle.command_plan.proofs.LineLemmas.PlanLemmas.{app_about, app_after_help, app_arg, required_rule}
+use Rattle.command_plan.proofs.LineLemmas.PlanLemmas.{app_about, app_after_help, app_arg, required_local, required_rule}
 use Rattle.command_plan.proofs.planner.verb_command.Goals as goal
 
 pub returns : goal.returns
@@ -15,8 +15,10 @@ returns c =
     c.text_option.ensures.rule c.required-schema.ensures in
     let type_is = required_rule c.text_option-2.result c.required-named.result (codes "type")
     c.text_option-2.ensures.rule c.required-named.ensures in
-    let schema_local = ap (λ a. a.global) c.required-schema.ensures ∙ c.text_option.ensures.local in
-    let type_local = ap (λ a. a.global) c.required-named.ensures ∙ c.text_option-2.ensures.local in
+    let schema_local = required_local c.text_option.result c.required-schema.result
+    c.text_option.ensures.local c.required-schema.ensures in
+    let type_local = required_local c.text_option-2.result c.required-named.result
+    c.text_option-2.ensures.local c.required-named.ensures in
     let start : IsApp (new_app c.args.word.now) c.new.result =
     record { whole = c.new.ensures.app; local = c.new.ensures.local } in
     let about = app_about c.new.result c.about.result _ _ c.about.ensures start in

@@ -1,6 +1,10 @@
-use Rattle.std.proofs.Common.{◌≡◌, ◌∙◌, Bool, inl, ap, ap₂, sym}
+use Rattle.std.proofs.Common.{◌∙◌, Bool, inl, ap, ap₂, subst, sym}
 use Rattle.std.specs.Prelude.{◌&&◌, ◌||◌, not}
-use Rattle.command_plan.specs.Requests.{format_asked, hints_asked}
+use Rattle.std.proofs.lemmas.Bool.{and_parts, not-true}
+use Rattle.command_plan.specs.PartTexts.{are_lines_of_a_file}
+use Rattle.command_plan.specs.Requests.{AsksForPart, format_asked, hints_asked}
+use Rattle.command_plan.specs.private.Planner.{AsksForNoPart}
+use Rattle.command_plan.proofs.LineLemmas.PartLemmas.{asked_for, lines_there}
 use Rattle.command_plan.proofs.LineLemmas.PlanLemmas.{none_left}
 use Rattle.command_plan.proofs.requests.run_request.Goals as goal
 
@@ -15,7 +19,10 @@ returns c words line =
       is_lines = sym c.asks_for_both.ensures ∙ c.if-asks_for_both.false;
       skip_faulty = line.skip_faulty;
       items = line.items;
+      row = line.row;
       has_items = sym c.lacks_collection.ensures ∙ c.if-lacks_collection.false;
+      part = subst (λ text. AsksForPart text c.in-Some-part_asked.part) line.part c.in-Some-part_asked.ensures.some;
+      part_of_lines = lines_there c.in-Some-part_asked.part _ (sym c.lacks_lines.ensures ∙ c.if-lacks_lines.false);
     }
 
 pub returns-then-asks_for_both : goal.returns-then-asks_for_both
@@ -36,3 +43,14 @@ returns-in_default c words line =
 pub returns-in_default-format_asked : goal.returns-in_default-format_asked
 returns-in_default-format_asked c words line =
     inl (c.args.line.plan, line.plan, ap format_asked (sym line.format) ∙ sym c.format_asked.ensures ∙ none_left c.format_asked.result c.in_default-format_asked.not-Some)
+
+pub returns-in_default-part_asked : goal.returns-in_default-part_asked
+returns-in_default-part_asked c words line =
+    (c.args.line.plan, line.plan, subst AsksForNoPart line.part (rw (none_left c.part_asked.result c.in_default-part_asked.not-Some) at c.part_asked.ensures.none))
+
+pub returns-then-lacks_lines : goal.returns-then-lacks_lines
+returns-then-lacks_lines c words line =
+    let plan = c.args.line.plan in
+    let both = and_parts _ _ (sym c.lacks_lines.ensures ∙ c.if-lacks_lines.true) in
+    let asks = subst (λ text. AsksForPart text c.in-Some-part_asked.part) line.part c.in-Some-part_asked.ensures.some in
+    (plan, line.plan, (asked_for _ c.in-Some-part_asked.part asks both.0, ap (are_lines_of_a_file plan.collection) (sym line.rows) ∙ not-true _ both.1))
