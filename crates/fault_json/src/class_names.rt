@@ -19,6 +19,10 @@ pub fn class_name(class: FaultClass) -> &'static str {
         FaultClass::NoFilter => "no_filter",
         FaultClass::MomentNeeded => "moment_needed",
         FaultClass::NotAMoment => "not_a_moment",
+        FaultClass::TooCostly => "too_costly",
+        FaultClass::Unsayable => "unsayable",
+        FaultClass::TooDeep => "too_deep",
+        FaultClass::UnknownColumn => "unknown_column",
     }
 }
 
@@ -46,6 +50,10 @@ fn lone_name(class: FaultClass) -> &'static str {
         FaultClass::NoFilter => "NoFilter",
         FaultClass::MomentNeeded => "MomentNeeded",
         FaultClass::NotAMoment => "NotAMoment",
+        FaultClass::TooCostly => "TooCostly",
+        FaultClass::Unsayable => "Nul",
+        FaultClass::TooDeep => "TooDeep",
+        FaultClass::UnknownColumn => "UnknownColumn",
         _ => "",
     }
 }

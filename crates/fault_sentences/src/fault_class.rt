@@ -24,4 +24,12 @@ pub enum FaultClass {
     MomentNeeded,
     /// A text that is not a moment.
     NotAMoment,
+    /// A row on which the filter costs more than the bound.
+    TooCostly,
+    /// A text that no parameter of SQL holds.
+    Unsayable,
+    /// A filter that nests too deeply for SQL.
+    TooDeep,
+    /// A column for a name that is not a property's.
+    UnknownColumn,
 }

@@ -156,6 +156,26 @@ fn lone_template(class: FaultClass) -> Template {
             "\"",
             "\" is not a moment, as 2020-01-01T00:00:00Z is one.",
         ),
+        FaultClass::TooCostly => (
+            "On this row the filter costs more than the bound allows.",
+            "",
+            "",
+        ),
+        FaultClass::Unsayable => (
+            "A text of the filter or the name of a column has the character U+0000, which no database takes.",
+            "",
+            "",
+        ),
+        FaultClass::TooDeep => (
+            "The filter, or its condition in SQL, nests too deeply for the database.",
+            "",
+            "",
+        ),
+        FaultClass::UnknownColumn => (
+            "A column is given for a name that is no property of the type.",
+            "",
+            "",
+        ),
         _ => ("The line is too long.", "", ""),
     }
 }

@@ -10,7 +10,7 @@ use Rattle.handle_calls.specs.declared.handle.Handle.{Handle}
 use Rattle.handle_calls.specs.declared.owned.Owned.{Owned}
 use Rattle.handle_calls.specs.Reports.{ReadsSchema, FindsType, ChecksText, ChecksQuery, Frees}
 use Rattle.report_calls.specs.Reports.{ReportsVersion, ReportsStatus, ReportsFault}
-use Rattle.handle_calls.specs.RowReports.{ReportsNeed, MakesJudge, SetsBound, SetsMoment, JudgesOne, FiltersLines, ReportsPath}
+use Rattle.handle_calls.specs.RowReports.{ReportsNeed, MakesJudge, SetsBound, SetsMoment, JudgesOne, ReportsPath}
 
 -- what `odfilter_read_schema` borrows: bytes, a buffer, the new handle's variable and the answer
 abbrev pub borrowed_by_read_schema : Loan → Bytes → Buffer → Ptr → Ptr → Fml
@@ -19,13 +19,15 @@ borrowed_by_read_schema l document names schema answer =
 
 -- what it leaves: all unchanged and the status 1 where an address may not be null and is, else what `ReadsSchema` says
 abbrev pub left_by_read_schema : Loan → Bytes → Buffer → Ptr → Ptr → ℕ → Fml
-left_by_read_schema l document names schema answer result = unless_null (names.at ∷ schema ∷ answer ∷ [])
+left_by_read_schema l document names schema answer result = unless_null (schema ∷ answer ∷ [])
     (fsep (feq ℕ result 1) (borrowed_by_read_schema l document names schema answer))
     (fex (List ℕ) (λ names'. fex Owned (λ schema'. fex Answer (λ answer'.
     fsep (left_buffer l names names') (fsep (left_made l schema schema') (fsep (left_answer l answer answer')
-    (holds (of_bytes document.at document.length l.bytes
-    ((names' ≡ l.buffer) × ((schema' ≡ l.made) × ((answer' ≡ l.answer) × (result ≡ 1))))
-    (λ bytes. ReadsSchema bytes l.buffer names' schema' answer' result)))))))))
+    (holds (of_buffer names.at names.length l.buffer names'
+    ((schema' ≡ l.made) × ((answer' ≡ l.answer) × (result ≡ 1)))
+    (λ old new. of_bytes document.at document.length l.bytes
+    ((new ≡ old) × ((schema' ≡ l.made) × ((answer' ≡ l.answer) × (result ≡ 1))))
+    (λ bytes. ReadsSchema bytes old new schema' answer' result))))))))))
 
 -- what `odfilter_find_type` borrows: a handle, bytes and the new handle's variable
 abbrev pub borrowed_by_find_type : Loan → Ptr → Bytes → Ptr → Fml
@@ -127,22 +129,6 @@ left_by_judge l filter judge row answer result = unless_null (filter ∷ judge �
     fsep (left_judge l judge judge') (fsep (left_answer l answer answer')
     (holds (of_bytes row.at row.length l.bytes ((judge' ≡ l.judge) × ((answer' ≡ l.answer) × (result ≡ 1)))
     (λ bytes. JudgesOne l.handle l.judge judge' bytes answer' result)))))))
-
--- what `odfilter_filter_lines` borrows: a handle, a judge that may change, bytes, a buffer and the answer
-abbrev pub borrowed_by_filter_lines : Loan → Ptr → Ptr → Bytes → Buffer → Ptr → Fml
-borrowed_by_filter_lines l filter judge rows kept answer =
-    fsep (borrowed_handle l filter) (fsep (borrowed_judge l judge) (fsep (borrowed_bytes l rows)
-    (fsep (borrowed_buffer l kept) (borrowed_answer l answer))))
-
--- what it leaves: all unchanged and the status 1 where an address may not be null and is, else what `FiltersLines` says
-abbrev pub left_by_filter_lines : Loan → Ptr → Ptr → Bytes → Buffer → Ptr → ℕ → Fml
-left_by_filter_lines l filter judge rows kept answer result = unless_null (filter ∷ judge ∷ kept.at ∷ answer ∷ [])
-    (fsep (feq ℕ result 1) (borrowed_by_filter_lines l filter judge rows kept answer))
-    (fex Handle (λ judge'. fex (List ℕ) (λ kept'. fex Answer (λ answer'.
-    fsep (left_judge l judge judge') (fsep (left_buffer l kept kept') (fsep (left_answer l answer answer')
-    (holds (of_bytes rows.at rows.length l.bytes
-    ((judge' ≡ l.judge) × ((kept' ≡ l.buffer) × ((answer' ≡ l.answer) × (result ≡ 1))))
-    (λ bytes. FiltersLines l.handle l.judge judge' bytes l.buffer kept' answer' result)))))))))
 
 -- what `odfilter_path` borrows: a handle, a buffer and the answer
 abbrev pub borrowed_by_path : Loan → Ptr → Buffer → Ptr → Fml

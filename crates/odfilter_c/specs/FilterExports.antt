@@ -22,13 +22,15 @@ borrowed_by_check_url l given query text made answer =
 
 -- what it leaves: all unchanged and the status 1 where an address may not be null and is, else what `ChecksUrl` says
 abbrev pub left_by_check_url : Loan → Ptr → Bytes → Buffer → Ptr → Ptr → ℕ → Fml
-left_by_check_url l given query text made answer result = unless_null (given ∷ text.at ∷ made ∷ answer ∷ [])
+left_by_check_url l given query text made answer result = unless_null (given ∷ made ∷ answer ∷ [])
     (fsep (feq ℕ result 1) (borrowed_by_check_url l given query text made answer))
     (fex (List ℕ) (λ text'. fex Owned (λ made'. fex Answer (λ answer'.
     fsep (left_buffer l text text') (fsep (left_made l made made') (fsep (left_answer l answer answer')
-    (holds (of_bytes query.at query.length l.bytes
-    ((text' ≡ l.buffer) × ((made' ≡ l.made) × ((answer' ≡ l.answer) × (result ≡ 1))))
-    (λ bytes. ChecksUrl l.handle bytes l.buffer text' made' answer' result)))))))))
+    (holds (of_buffer text.at text.length l.buffer text'
+    ((made' ≡ l.made) × ((answer' ≡ l.answer) × (result ≡ 1)))
+    (λ old new. of_bytes query.at query.length l.bytes
+    ((new ≡ old) × ((made' ≡ l.made) × ((answer' ≡ l.answer) × (result ≡ 1))))
+    (λ bytes. ChecksUrl l.handle bytes old new made' answer' result))))))))))
 
 -- what `odfilter_sql` borrows: a handle, bytes, a buffer and the answer
 abbrev pub borrowed_by_sql : Loan → Ptr → Bytes → Buffer → Ptr → Fml

@@ -9,6 +9,7 @@ pub mod Exports
 pub mod FaultExports
 pub mod FilterExports
 pub mod JudgeExports
+pub mod LineExports
 pub mod Loans
 pub mod Sizes
 pub mod SqlExports

@@ -12,7 +12,6 @@ ghost use Rattle.odfilter_c.specs.Exports.{borrowed_by_new_judge, left_by_new_ju
 ghost use Rattle.odfilter_c.specs.Exports.{borrowed_by_set_moment, left_by_set_moment};
 ghost use Rattle.odfilter_c.specs.Exports.{borrowed_by_set_bound, left_by_set_bound};
 ghost use Rattle.odfilter_c.specs.Exports.{borrowed_by_judge, left_by_judge};
-ghost use Rattle.odfilter_c.specs.Exports.{borrowed_by_filter_lines, left_by_filter_lines};
 ghost use Rattle.odfilter_c.specs.Exports.{borrowed_by_path, left_by_path};
 ghost use Rattle.odfilter_c.specs.Exports.{borrowed_by_free, left_by_free};
 ghost use Rattle.odfilter_c.specs.Exports.{borrowed_by_version, left_by_version};
@@ -20,7 +19,7 @@ ghost use Rattle.odfilter_c.specs.Exports.{borrowed_by_status_name, left_by_stat
 ghost use Rattle.odfilter_c.specs.Exports.{borrowed_by_fault_name, left_by_fault_name};
 
 use crate::c_types::{Buffer, Bytes};
-use crate::{length_calls, null_calls};
+use crate::{length_calls, null_buffer_calls, null_calls};
 use handle_calls::{Answer, Handle, Owned, calls};
 use report_calls::calls as reports;
 use std::alloc::Global;
@@ -42,34 +41,55 @@ pub unsafe extern "C" fn odfilter_read_schema(
     ensures* { sem 𝓛 (flft loan.lifetime loan.share)
         ∗ sem 𝓛 (left_by_read_schema loan document names schema answer result) }
 {
-    if names.at.is_null() {
-        return 1;
-    }
     if schema.is_null() {
         return 1;
     }
     if answer.is_null() {
         return 1;
     }
-    if document.at.is_null() {
-        unsafe {
-            null_calls::read_schema_at_null(
-                alloc,
-                document.length,
-                from_raw_parts_mut(names.at, names.length),
-                &mut *schema,
-                &mut *answer,
-            )
+    if names.at.is_null() {
+        if document.at.is_null() {
+            unsafe {
+                null_buffer_calls::read_schema_to_null_at_null(
+                    alloc,
+                    document.length,
+                    names.length,
+                    &mut *schema,
+                    &mut *answer,
+                )
+            }
+        } else {
+            unsafe {
+                null_buffer_calls::read_schema_to_null(
+                    alloc,
+                    from_raw_parts(document.at, document.length),
+                    names.length,
+                    &mut *schema,
+                    &mut *answer,
+                )
+            }
         }
     } else {
-        unsafe {
-            calls::read_schema(
-                alloc,
-                from_raw_parts(document.at, document.length),
-                from_raw_parts_mut(names.at, names.length),
-                &mut *schema,
-                &mut *answer,
-            )
+        if document.at.is_null() {
+            unsafe {
+                null_calls::read_schema_at_null(
+                    alloc,
+                    document.length,
+                    from_raw_parts_mut(names.at, names.length),
+                    &mut *schema,
+                    &mut *answer,
+                )
+            }
+        } else {
+            unsafe {
+                calls::read_schema(
+                    alloc,
+                    from_raw_parts(document.at, document.length),
+                    from_raw_parts_mut(names.at, names.length),
+                    &mut *schema,
+                    &mut *answer,
+                )
+            }
         }
     }
 }
@@ -313,58 +333,6 @@ pub unsafe extern "C" fn odfilter_judge(
                 &*(filter as *const Handle),
                 &mut *(judge as *mut Handle),
                 from_raw_parts(row.at, row.length),
-                &mut *answer,
-            )
-        }
-    }
-}
-
-/// Judges rows, a line each, and writes those that are kept.
-#[unsafe(no_mangle)]
-pub unsafe extern "C" fn odfilter_filter_lines(
-    filter: *const u8,
-    judge: *mut u8,
-    rows: Bytes,
-    kept: Buffer,
-    answer: *mut Answer,
-) -> u32
-    ghost loan: { Loan }
-    requires testable { (Testable filter) × (Testable judge) × (Testable rows.at) × (Testable kept.at)
-        × (Testable answer) }
-    requires* borrowed { sem 𝓛 (flft loan.lifetime loan.share)
-        ∗ sem 𝓛 (borrowed_by_filter_lines loan filter judge rows kept answer) }
-    ensures* { sem 𝓛 (flft loan.lifetime loan.share)
-        ∗ sem 𝓛 (left_by_filter_lines loan filter judge rows kept answer result) }
-{
-    if filter.is_null() {
-        return 1;
-    }
-    if judge.is_null() {
-        return 1;
-    }
-    if kept.at.is_null() {
-        return 1;
-    }
-    if answer.is_null() {
-        return 1;
-    }
-    if rows.at.is_null() {
-        unsafe {
-            null_calls::filter_lines_at_null(
-                &*(filter as *const Handle),
-                &mut *(judge as *mut Handle),
-                rows.length,
-                from_raw_parts_mut(kept.at, kept.length),
-                &mut *answer,
-            )
-        }
-    } else {
-        unsafe {
-            calls::filter_lines(
-                &*(filter as *const Handle),
-                &mut *(judge as *mut Handle),
-                from_raw_parts(rows.at, rows.length),
-                from_raw_parts_mut(kept.at, kept.length),
                 &mut *answer,
             )
         }

@@ -13,7 +13,7 @@ ghost use Rattle.odfilter_c.specs.FilterExports.{borrowed_by_fault_text, left_by
 ghost use Rattle.odfilter_c.specs.FilterExports.{borrowed_by_sql, left_by_sql};
 
 use crate::c_types::{Buffer, Bytes};
-use crate::{length_calls, null_calls};
+use crate::{length_calls, null_buffer_calls, null_calls};
 use handle_calls::{Answer, Handle, Owned, calls};
 use report_calls::calls as reports;
 use std::alloc::Global;
@@ -40,36 +40,59 @@ pub unsafe extern "C" fn odfilter_check_url(
     if given.is_null() {
         return 1;
     }
-    if text.at.is_null() {
-        return 1;
-    }
     if made.is_null() {
         return 1;
     }
     if answer.is_null() {
         return 1;
     }
-    if query.at.is_null() {
-        unsafe {
-            null_calls::check_url_at_null(
-                alloc,
-                &*(given as *const Handle),
-                query.length,
-                from_raw_parts_mut(text.at, text.length),
-                &mut *made,
-                &mut *answer,
-            )
+    if text.at.is_null() {
+        if query.at.is_null() {
+            unsafe {
+                null_buffer_calls::check_url_to_null_at_null(
+                    alloc,
+                    &*(given as *const Handle),
+                    query.length,
+                    text.length,
+                    &mut *made,
+                    &mut *answer,
+                )
+            }
+        } else {
+            unsafe {
+                null_buffer_calls::check_url_to_null(
+                    alloc,
+                    &*(given as *const Handle),
+                    from_raw_parts(query.at, query.length),
+                    text.length,
+                    &mut *made,
+                    &mut *answer,
+                )
+            }
         }
     } else {
-        unsafe {
-            calls::check_url(
-                alloc,
-                &*(given as *const Handle),
-                from_raw_parts(query.at, query.length),
-                from_raw_parts_mut(text.at, text.length),
-                &mut *made,
-                &mut *answer,
-            )
+        if query.at.is_null() {
+            unsafe {
+                null_calls::check_url_at_null(
+                    alloc,
+                    &*(given as *const Handle),
+                    query.length,
+                    from_raw_parts_mut(text.at, text.length),
+                    &mut *made,
+                    &mut *answer,
+                )
+            }
+        } else {
+            unsafe {
+                calls::check_url(
+                    alloc,
+                    &*(given as *const Handle),
+                    from_raw_parts(query.at, query.length),
+                    from_raw_parts_mut(text.at, text.length),
+                    &mut *made,
+                    &mut *answer,
+                )
+            }
         }
     }
 }

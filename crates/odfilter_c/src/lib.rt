@@ -15,6 +15,8 @@ pub mod fault_exports;
 pub mod filter_exports;
 pub mod judge_exports;
 mod length_calls;
+pub mod line_exports;
+mod null_buffer_calls;
 mod null_calls;
 pub mod sql_exports;
 pub mod type_exports;

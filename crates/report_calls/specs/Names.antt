@@ -66,7 +66,7 @@ lone_faults =
     ∷ (21, codes "Json")
     ∷ (24, codes "LineTooLong")
     ∷ (25, codes "TooCostly")
-    ∷ (26, codes "Unsayable")
+    ∷ (26, codes "Nul")
     ∷ (27, codes "TooDeep")
     ∷ (28, codes "UnknownColumn") ∷ []
 

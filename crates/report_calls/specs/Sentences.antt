@@ -24,7 +24,11 @@ classes =
     ∷ (21, FaultClass.Json)
     ∷ (22, FaultClass.Row)
     ∷ (23, FaultClass.Evaluation)
-    ∷ (24, FaultClass.Line) ∷ []
+    ∷ (24, FaultClass.Line)
+    ∷ (25, FaultClass.TooCostly)
+    ∷ (26, FaultClass.Unsayable)
+    ∷ (27, FaultClass.TooDeep)
+    ∷ (28, FaultClass.UnknownColumn) ∷ []
 
 abbrev pub class_under : ℕ → Option FaultClass
 class_under status = beside classes status

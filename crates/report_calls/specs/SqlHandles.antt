@@ -1,5 +1,5 @@
 -- Conditions of SQL as a handle has them: their statements, and the values of these.
-use Rattle.std.specs.Prelude.{◌≡◌, ◌⊎◌, ℕ, List, length, Option, None, Some, Result, Ok, Err, IsSomeAnd, MatchResult, cond, eqb, option_and_then, option_map, slice_get, string_bytes}
+use Rattle.std.specs.Prelude.{◌≡◌, ◌⊎◌, ℕ, List, length, Option, None, Some, Result, Ok, Err, IsSomeAnd, IsTrue, MatchResult, cond, eqb, is_some, option_and_then, option_map, slice_get, string_bytes}
 use Rattle.std.specs.Int.{cast_unsigned, w64}
 use Rattle.odata_sql.specs.declared.translation.Conditions.{Conditions}
 use Rattle.odata_sql.specs.declared.translation.Statement.{Statement}
@@ -116,11 +116,11 @@ IsValueIn (Handle.Conditions held) number index shown =
     IsSomeAnd (parameter_at held.value number index) (λ p. shown ≡ value_shown held.value.dialect p)
 IsValueIn handle number index shown = ⊥
 
--- why there is none: no such statement or index, or out of memory
+-- why there is none: no such statement or index, or out of memory for one that is there
 abbrev pub IsNoValue : Handle → ℕ → ℕ → Fault → Type 0
 IsNoValue given number index Fault.OtherKind = ¬ IsConditionsKind given
 IsNoValue (Handle.Conditions held) number index Fault.UnknownNumber = parameter_at held.value number index ≡ None
-IsNoValue (Handle.Conditions held) number index Fault.Memory = Unit {0}
+IsNoValue (Handle.Conditions held) number index Fault.Memory = IsTrue (is_some (parameter_at held.value number index))
 IsNoValue given number index fault = ⊥
 
 pub record ReportsValue

@@ -3,7 +3,7 @@ ghost use Rattle.std.specs.Prelude.{◌≡◌, IfOk, IsTrue, MatchResult, is_som
 ghost use Rattle.fault_sentences.specs.Numbers.{is_known};
 ghost use Rattle.report_calls.specs.Sentences.{IsNoSentence, IsNoSentenceFor, IsSentenceFor, has_fault};
 
-use crate::sentence_calls::{class_of_status, fault_span, fault_subject, name_of};
+use crate::fault_reports::report_of;
 use fault_json::{LocatedFault, fault_json};
 use fault_sentences::{FaultClass, Report};
 use handle_calls::{Answer, Fault, Handle, TypeHandle};
@@ -12,7 +12,11 @@ use std::alloc::{AllocError, Global};
 /// The line of a row's fault in a run; a row by itself has none.
 fn line_of(class: FaultClass, fault: &Answer) -> Option<u64> {
     match class {
-        FaultClass::Json | FaultClass::Row | FaultClass::Evaluation | FaultClass::Line => {
+        FaultClass::Json
+        | FaultClass::Row
+        | FaultClass::Evaluation
+        | FaultClass::Line
+        | FaultClass::TooCostly => {
             if fault.number == 0 {
                 None
             } else {
@@ -57,20 +61,8 @@ pub(crate) fn json_of(
     ensures { MatchResult result (λ object. IsTrue (has_fault status fault.now.fault))
         (IsNoSentence status fault.now.fault text.now) }
 {
-    let Some(class) = class_of_status(status) else {
-        return Err(Fault::UnknownNumber);
-    };
-    let Ok(number) = u8::try_from(fault.fault) else {
-        return Err(Fault::UnknownNumber);
-    };
-    let report = Report {
-        class,
-        number,
-        span: fault_span(class, fault),
-        text: fault_subject(class, text)?,
-        type_name: held.and_then(name_of),
-    };
-    match object_about(alloc, held, &report, line_of(class, fault)) {
+    let report = report_of(held, status, fault, text)?;
+    match object_about(alloc, held, &report, line_of(report.class, fault)) {
         Ok(Some(object)) => Ok(object),
         Ok(None) => Err(Fault::UnknownNumber),
         Err(_) => Err(Fault::Memory),

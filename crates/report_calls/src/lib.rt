@@ -8,6 +8,7 @@
 #![tactic(auto)]
 
 pub mod calls;
+mod fault_reports;
 mod json_calls;
 mod name_calls;
 mod sentence_calls;

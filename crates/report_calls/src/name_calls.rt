@@ -73,7 +73,7 @@ fn lone_fault_name(status: u32, fault: u32) -> Result<&'static str, Fault>
         21 => Ok("Json"),
         24 => Ok("LineTooLong"),
         25 => Ok("TooCostly"),
-        26 => Ok("Unsayable"),
+        26 => Ok("Nul"),
         27 => Ok("TooDeep"),
         28 => Ok("UnknownColumn"),
         _ => Err(Fault::UnknownNumber),
