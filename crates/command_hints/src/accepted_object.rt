@@ -1,8 +1,7 @@
 //! The JSON object of a filter that is accepted.
+use crate::filter_of_plan::{plan_filter, read_schema};
 use command_plan::command_line::{Plan, Verb};
-use csdl_schema::Schema;
-use odata_queries::filter_of_query;
-use odata_typing::{Checked, check};
+use odata_typing::Checked;
 use serde::Serialize;
 use serde_json::to_string;
 use std::alloc::{AllocError, Global};
@@ -39,15 +38,17 @@ fn expanded<'t>(
     Ok(needed)
 }
 
-/// What is said of each node of a filter.
+/// What is said of each node of a filter: this text, or the filter's explanation.
 fn explained(
     alloc: Global,
     checked: &Checked<'_>,
     verb: Verb,
+    given: Option<&str>,
 ) -> Result<Option<String>, AllocError> {
-    match verb {
-        Verb::Explain => Ok(Some(checked.explain(alloc)?)),
-        Verb::Check | Verb::Filter => Ok(None),
+    match (verb, given) {
+        (_, Some(text)) => Ok(Some(String::from_str(alloc, text)?)),
+        (Verb::Explain, None) => Ok(Some(checked.explain(alloc)?)),
+        (Verb::Check | Verb::Filter, None) => Ok(None),
     }
 }
 
@@ -86,49 +87,32 @@ fn written(
     }
 }
 
-/// The object of a checked filter.
-fn object_text(alloc: Global, checked: &Checked<'_>, verb: Verb) -> Result<String, AllocError> {
+/// The object of a checked filter, with this text or its own explanation.
+fn object_text(
+    alloc: Global,
+    checked: &Checked<'_>,
+    verb: Verb,
+    given: Option<&str>,
+) -> Result<String, AllocError> {
     let canonical = checked.canonical(alloc)?;
     let paths = checked.property_paths(alloc)?;
-    let explanation = explained(alloc, checked, verb)?;
+    let explanation = explained(alloc, checked, verb, given)?;
     written(alloc, checked, &canonical, paths.as_slice(), &explanation)
 }
 
-/// The object of a filter's text, if it is accepted.
-fn of_text(
-    alloc: Global,
-    schema: &Schema,
-    plan: &Plan<'_>,
-    text: &str,
-) -> Result<Option<String>, AllocError> {
-    let Some(id) = schema.type_named(plan.named) else {
-        return Ok(None);
-    };
-    if !schema.holds(id) {
-        return Ok(None);
-    }
-    match check(alloc, schema, id, text) {
-        Ok(checked) => Ok(Some(object_text(alloc, &checked, plan.verb)?)),
-        Err(_) => Ok(None),
-    }
-}
-
-/// Returns the JSON object of a plan's filter, without a line feed; `None` if it is not accepted. It has no clause: what
-/// the object says is tested.
+/// Returns the JSON object of a plan's filter, without a line feed; `None` if it is not accepted. Under `explain` it has
+/// the lines of `given`, or those of the filter's explanation. It has no clause: what the object says is tested.
 pub fn accepted_json(
     alloc: Global,
     plan: &Plan<'_>,
     document: &[u8],
+    given: Option<&str>,
 ) -> Result<Option<String>, AllocError> {
-    let Ok(schema) = Schema::read(alloc, document) else {
+    let Some(schema) = read_schema(alloc, document)? else {
         return Ok(None);
     };
-    match (plan.filter, plan.query) {
-        (Some(text), None) => of_text(alloc, &schema, plan, text),
-        (None, Some(query)) => match filter_of_query(alloc, query.as_bytes()) {
-            Ok(Some(text)) => of_text(alloc, &schema, plan, text.as_str()),
-            _ => Ok(None),
-        },
-        _ => Ok(None),
+    match plan_filter(alloc, &schema, plan)? {
+        Some(checked) => Ok(Some(object_text(alloc, &checked, plan.verb, given)?)),
+        None => Ok(None),
     }
 }

@@ -1,10 +1,12 @@
 use command_plan::command_line::Plan;
-use odata_filter::{Failure, RunFault};
+use odata_filter::{Failure, Part, RunFault};
 
 /// A run that failed, and what it was given.
 #[derive(Clone, Copy)]
 pub struct FailedRun<'r, 'p, 'l> {
     pub plan: &'r Plan<'p>,
+    /// The part of its file of rows that it was to read, if not all of it.
+    pub part: Option<Part>,
     /// The bytes of the schema file.
     pub document: &'r [u8],
     pub failure: &'r Failure<'p>,

@@ -5,7 +5,6 @@ use crate::marked_text::marked_text;
 use crate::near_types::type_advice;
 use crate::reported_fault::{ReportedFault, reported_fault};
 use crate::row_hints::row_advice;
-use crate::unread_type::unread_advice;
 use csdl_schema::{Schema, SchemaFault, TypeId};
 use fault_json::{LocatedFault, fault_json};
 use fault_sentences::{FaultClass, Report, fault_sentence};
@@ -30,30 +29,9 @@ fn with_more(alloc: Global, text: String, more: Option<String>) -> Result<String
     }
 }
 
-/// What the document shows of a property that is not read.
-fn unread_type(
-    alloc: Global,
-    document: &[u8],
-    schema: &Schema,
-    id: TypeId,
-    report: &Report<'_>,
-) -> Result<Option<String>, AllocError> {
-    match (report.class, report.number) {
-        (FaultClass::Typing, 11) => {
-            let path = report
-                .text
-                .get(report.span.start..report.span.stop)
-                .unwrap_or("");
-            unread_advice(alloc, document, schema, id, path)
-        }
-        _ => Ok(None),
-    }
-}
-
 /// A sentence, and the filter with carets under its fault.
 fn filter_hints(
     alloc: Global,
-    document: &[u8],
     known: &Option<(Schema, TypeId)>,
     fault: &ReportedFault,
 ) -> Result<Option<String>, AllocError> {
@@ -69,8 +47,6 @@ fn filter_hints(
     let Some(sentence) = advise(alloc, &filter)? else {
         return Ok(None);
     };
-    let more = unread_type(alloc, document, schema, *id, &report)?;
-    let sentence = with_more(alloc, sentence, more)?;
     let marked = marked_text(alloc, report.text, report.span)?;
     Ok(Some(format!(in alloc; "{}\n{}", sentence.as_str(), marked.as_str())?))
 }
@@ -147,7 +123,7 @@ pub fn failure_hints(
     };
     match run.failure {
         Failure::NoOption => hints_without_filter(alloc, run.plan.query.unwrap_or("")),
-        Failure::Refused(_) => filter_hints(alloc, run.document, &filtered(alloc, run), &fault),
+        Failure::Refused(_) => filter_hints(alloc, &filtered(alloc, run), &fault),
         _ => plain_hints(alloc, run, &fault),
     }
 }

@@ -3,7 +3,7 @@
 //! ```rust
 //! use command_hints::{FailedRun, failure_hints};
 //!
-//! let run = FailedRun { plan: &plan, document, failure: &failure, row: None };
+//! let run = FailedRun { plan: &plan, document, failure: &failure, part: None, row: None };
 //! if let Some(hints) = failure_hints(alloc, &run)? {
 //!     eprintln!(rt; "{hints}")?;
 //! }
@@ -14,17 +14,19 @@ mod accepted_object;
 mod failed_run;
 mod failure_report;
 mod file_form;
+mod filter_of_plan;
 mod json_place;
 mod marked_text;
 mod near_types;
+mod plan_explanation;
 mod reported_fault;
 mod row_hints;
 mod row_object;
 mod row_value;
 mod text_columns;
-mod unread_type;
 
 pub use accepted_object::accepted_json;
 pub use failed_run::FailedRun;
 pub use failure_report::{failure_hints, failure_json};
-pub use row_object::{bad_row_json, bad_row_name};
+pub use plan_explanation::{explained_row, explains_rows};
+pub use row_object::{bad_row_json, bad_row_name, bad_row_sentence};

@@ -1,4 +1,5 @@
 //! What to say of a name of no entity type.
+use filter_hints::NearNames;
 use serde_json::Value;
 use std::alloc::{AllocError, Global};
 use type_listing::type_names;
@@ -28,12 +29,51 @@ fn last_part(name: &str) -> &str {
     }
 }
 
-/// The type that has the same name in a namespace, case apart.
-fn meant<'n>(names: &'n [String], name: &str) -> Option<&'n str> {
-    let found = names.iter().find(|other| last_part(other.as_str()).eq_ignore_ascii_case(last_part(
-        name,
-    )))?;
+/// The first type of that name in a namespace, case apart.
+fn type_called<'n>(names: &'n [String], last: &str) -> Option<&'n str> {
+    let found = names.iter().find(|other| last_part(other.as_str()).eq_ignore_ascii_case(last))?;
     Some(found.as_str())
+}
+
+/// The names after their namespaces that are near to the one of the asked name.
+fn near_parts<'n>(names: &'n [String], name: &'n str) -> NearNames<'n> {
+    let mut near = NearNames::new(last_part(name));
+    for other in names {
+        near.offer(last_part(other.as_str()));
+    }
+    near
+}
+
+/// The type whose name has so many nearer ones.
+fn near_type<'n>(names: &'n [String], near: &NearNames<'n>, index: usize) -> Option<&'n str> {
+    type_called(names, near.at(index)?)
+}
+
+/// A question whether one of the types was meant whose names are near. Where one has the same name in another
+/// namespace, case apart, it is that one.
+fn near_in_words(
+    alloc: Global,
+    names: &[String],
+    name: &str,
+) -> Result<Option<String>, AllocError> {
+    if let Some(same) = type_called(names, last_part(name)) {
+        return Ok(Some(format!(in alloc; "Did you mean '{same}'?")?));
+    }
+    let near = near_parts(names, name);
+    match (
+        near_type(names, &near, 0),
+        near_type(names, &near, 1),
+        near_type(names, &near, 2),
+    ) {
+        (Some(one), Some(two), Some(three)) => Ok(Some(format!(in alloc;
+            "Did you mean '{one}', '{two}' or '{three}'?"
+        )?)),
+        (Some(one), Some(two), None) => Ok(Some(format!(in alloc;
+            "Did you mean '{one}' or '{two}'?"
+        )?)),
+        (Some(one), None, _) => Ok(Some(format!(in alloc; "Did you mean '{one}'?")?)),
+        (None, _, _) => Ok(None),
+    }
 }
 
 /// The first names, with commas between them.
@@ -61,11 +101,10 @@ pub fn type_advice(
     if names.is_empty() {
         return Ok(None);
     }
-    match meant(names.as_slice(), name) {
-        Some(other) => Ok(Some(format!(in alloc; "Did you mean '{other}'?")?)),
-        None => Ok(Some(format!(in alloc;
-            "There are {}.",
-            names_in_words(alloc, names.as_slice())?.as_str()
-        )?)),
+    if let Some(question) = near_in_words(alloc, names.as_slice(), name)? {
+        return Ok(Some(question));
     }
+    let list = names_in_words(alloc, names.as_slice())?;
+    let verb = if names.len() == 1 { "is only" } else { "are" };
+    Ok(Some(format!(in alloc; "There {verb} {}.", list.as_str())?))
 }

@@ -18,9 +18,13 @@ fn row_in_words(
     } else {
         "line"
     };
-    match run.plan.rows {
-        Some(file) => Ok(format!(in alloc; "{what} {line} of {file}")?),
-        None => Ok(format!(in alloc; "{what} {line} of standard input")?),
+    match (run.plan.rows, run.part) {
+        (Some(file), Some(part)) => Ok(format!(in alloc;
+            "{what} {line} of part {}/{} of {file}",
+            part.number, part.count
+        )?),
+        (Some(file), None) => Ok(format!(in alloc; "{what} {line} of {file}")?),
+        (None, _) => Ok(format!(in alloc; "{what} {line} of standard input")?),
     }
 }
 

@@ -1,6 +1,6 @@
 //! The fault of a row that a run passes over.
 use fault_json::{LocatedFault, fault_json};
-use fault_sentences::{FaultClass, Report};
+use fault_sentences::{FaultClass, Report, fault_sentence};
 use odata_filter::{BadRow, FaultKind, Numbered, fault_name, row_fault_path};
 use odata_text::Span;
 use std::alloc::{AllocError, Global};
@@ -18,6 +18,18 @@ fn class_number_path(fault: &BadRow) -> (FaultClass, u8, &str) {
     }
 }
 
+/// What is known of a row's fault.
+fn report_of(fault: &BadRow) -> Report<'_> {
+    let (class, number, text) = class_number_path(fault);
+    Report {
+        class,
+        number,
+        span: Span { start: 0, stop: 0 },
+        text,
+        type_name: None,
+    }
+}
+
 /// Returns the name of a row's fault, as its line has it; none if an allocation failed. It has no clause: names are
 /// tested.
 pub fn bad_row_name(fault: &BadRow) -> &'static str {
@@ -29,6 +41,12 @@ pub fn bad_row_name(fault: &BadRow) -> &'static str {
     found.unwrap_or("")
 }
 
+/// Returns the sentence about a row's fault, without a line feed. `None` if an allocation failed when the row was judged.
+/// It has no clause: sentences are tested.
+pub fn bad_row_sentence(alloc: Global, fault: &BadRow) -> Result<Option<String>, AllocError> {
+    fault_sentence(alloc, &report_of(fault))
+}
+
 /// Returns the JSON object of a row's fault, without a line feed. `None` if an allocation failed when the row was
 /// judged. It has no clause: what the object says is tested.
 pub fn bad_row_json(
@@ -37,16 +55,8 @@ pub fn bad_row_json(
     file: Option<&str>,
     line: u64,
 ) -> Result<Option<String>, AllocError> {
-    let (class, number, text) = class_number_path(fault);
-    let report = Report {
-        class,
-        number,
-        span: Span { start: 0, stop: 0 },
-        text,
-        type_name: None,
-    };
     let located = LocatedFault {
-        report,
+        report: report_of(fault),
         filtered: None,
         file,
         line: Some(line),

@@ -1,5 +1,6 @@
 pub use Rattle.collection_items.specs.JudgedItems
 pub use Rattle.command_plan.specs.CommandLine
+pub use Rattle.command_plan.specs.PartTexts
 pub use Rattle.command_plan.specs.Requests
 pub use Rattle.csdl_declarations.specs.Fault
 pub use Rattle.csdl_schema.specs.Document
@@ -23,6 +24,7 @@ pub use Rattle.line_filter.specs.LineSource
 pub use Rattle.line_filter.specs.LineStreams
 pub use Rattle.line_filter.specs.Lines
 pub use Rattle.line_filter.specs.Once
+pub use Rattle.line_filter.specs.Parts
 pub use Rattle.line_filter.specs.PastFaults
 pub use Rattle.line_filter.specs.ItemIndexes
 pub use Rattle.odata_checked_filter.specs.Filter

@@ -33,7 +33,7 @@ pub use headline::{canonical_texts_keep_rows, filters_keep_what_is_true};
 pub use laws::{collections_stop_once, rows_stop_once, unfailing_devices_never_fail};
 pub use line_filter::{
     ByRecord, CallLog, Called, Input, LineFault, LineReader, Logged, NotRead, NotWritten, Output,
-    Reads, TakesFaults, Tally, Through, Unfailing, Unlogged, Writes,
+    Part, PartReader, Reads, TakesFaults, Tally, Through, Unfailing, Unlogged, Writes, part_of,
 };
 pub use past_faults::{FilterAt, filter_past_faults};
 pub use row_judges::{

@@ -1,5 +1,6 @@
 //! Runs whose rows are counted, or that pass over rows at fault.
 use crate::fault_lines::{report, report_memory};
+use crate::line_prefix::LinePrefix;
 use crate::plan_run::{plan_over, rows_of};
 use crate::progress::Progress;
 use crate::row_faults::RowFaults;
@@ -23,7 +24,10 @@ fn count_file<'r>(
     counted: &mut Counted<'_, 'r>,
 ) -> u8 {
     counted.faults.file = plan.rows;
-    let rows = rows_of(rt, plan, counted.faults.progress);
+    counted.faults.prefix = LinePrefix::of(request, plan);
+    let Ok(rows) = rows_of(rt, plan, request.part, counted.faults.progress) else {
+        return report_memory(rt);
+    };
     let mut out = rt.stdout();
     match run_past_faults(
         rt.alloc(),
@@ -78,15 +82,27 @@ fn counts_text(rt: &HostRuntime, counted: &Counted<'_, '_>, format: Format) -> O
     Some(text)
 }
 
+/// What stands before the counts: which part of a file they are of.
+fn counts_prefix(request: &RunRequest<'_>) -> LinePrefix<'static> {
+    match request.part {
+        Some(part) => LinePrefix::Part(part),
+        None => LinePrefix::Nothing,
+    }
+}
+
 /// Writes how many rows there were, how many were kept, and how many had each fault.
-fn write_counts(rt: &HostRuntime, counted: &Counted<'_, '_>, format: Format) {
+fn write_counts(rt: &HostRuntime, request: &RunRequest<'_>, counted: &Counted<'_, '_>) {
     let Tally { rows, kept } = counted.tally;
     let total = counted.faults.total();
-    let _ = match (counts_text(rt, counted, format), format) {
+    let prefix = counts_prefix(request);
+    let _ = match (counts_text(rt, counted, request.format), request.format) {
         (Some(each), Format::Text) => {
             report(
                 rt,
-                format_args!("rows {rows}, kept {kept}, faulty {total}{}", each.as_str()),
+                format_args!(
+                    "{prefix}rows {rows}, kept {kept}, faulty {total}{}",
+                    each.as_str()
+                ),
                 0,
             )
         }
@@ -112,17 +128,16 @@ pub fn count_rows<'r>(
     progress: &Progress<'r>,
 ) -> u8 {
     let mut counted = Counted {
-        faults: RowFaults::none(request.format, request.skip_faulty, progress),
+        faults: RowFaults::none(request, progress),
         tally: Tally { rows: 0, kept: 0 },
     };
-    counted.faults.names_file = 1 < request.rows.len();
     let status = count_files(rt, request, document, &mut counted);
     progress.clear();
     if status != 0 {
         return status;
     }
     if request.count {
-        write_counts(rt, &counted, request.format);
+        write_counts(rt, request, &counted);
     }
     if 0 < counted.faults.total() { 4 } else { 0 }
 }

@@ -34,6 +34,8 @@ pub fn report_fault(rt: &HostRuntime, fault: RequestFault) -> u8 {
         RequestFault::Hints
         | RequestFault::Format
         | RequestFault::Collection
-        | RequestFault::Items => report(rt, format_args!("usage {fault}"), 2),
+        | RequestFault::Items
+        | RequestFault::Part
+        | RequestFault::PartOfRows => report(rt, format_args!("usage {fault}"), 2),
     }
 }

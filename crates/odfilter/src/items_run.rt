@@ -11,7 +11,7 @@ use std::alloc::{AllocError, Global};
 use std::io::{Cursor, Write};
 
 /// Carries the plan out over rows that are lines, up to the first at fault.
-fn filter_lines<'p, W: Write>(
+fn run_over<'p, W: Write>(
     faults: &mut RowFaults<'_, '_>,
     plan: &Plan<'p>,
     document: &[u8],
@@ -31,8 +31,10 @@ fn filter_lines<'p, W: Write>(
 /// All the bytes of the rows. A file is reported by its name, and standard input reports line 0.
 fn whole_rows<'p>(faults: &RowFaults<'_, '_>, plan: &Plan<'p>) -> Result<Vec<u8>, Failure<'p>> {
     let rt = faults.rt;
-    let Some(mut rows) = rows_of(rt, plan, faults.progress) else {
-        return Err(Failure::RowsFile(plan.rows.unwrap_or("rows")));
+    let mut rows = match rows_of(rt, plan, None, faults.progress) {
+        Ok(Some(rows)) => rows,
+        Ok(None) => return Err(Failure::RowsFile(plan.rows.unwrap_or("rows"))),
+        Err(AllocError) => return Err(Failure::Rows(RunFault::Memory { line: 0 })),
     };
     match (read_whole(rt.alloc(), &mut rows), plan.rows) {
         (Ok(bytes), _) => Ok(bytes),
@@ -42,24 +44,12 @@ fn whole_rows<'p>(faults: &RowFaults<'_, '_>, plan: &Plan<'p>) -> Result<Vec<u8>
     }
 }
 
-/// Whether there is memory for the lines of a document of so many bytes: a copy of it, and lines while they grow.
-fn is_memory_left(alloc: Global, count: usize) -> bool {
-    let lines: Result<Vec<u8>, AllocError> = Vec::with_capacity(alloc, count.saturating_mul(6));
-    lines.is_ok()
-}
-
-/// The lines of a document's entities. Where there are none although there is memory for them, they are asked for again:
-/// what was refused once may be given then.
+/// The lines of a document's entities.
 fn lines_of(alloc: Global, document: &[u8]) -> Result<Vec<u8>, RunFault> {
-    if let Some(lines) = item_lines(alloc, document) {
-        return Ok(lines);
-    }
-    if !is_memory_left(alloc, document.len()) {
-        return Err(RunFault::Memory { line: 0 });
-    }
     match item_lines(alloc, document) {
-        Some(lines) => Ok(lines),
-        None => Err(RunFault::NotACollection),
+        Ok(Some(lines)) => Ok(lines),
+        Ok(None) => Err(RunFault::NotACollection),
+        Err(AllocError) => Err(RunFault::Memory { line: 0 }),
     }
 }
 
@@ -80,9 +70,9 @@ fn write_kept<'p>(
 ) -> Result<(), Failure<'p>> {
     let none = Source::Held(Cursor::new(Vec::new(faults.rt.alloc())));
     let mut out = faults.rt.stdout();
-    filter_lines(faults, plan, document, none, &mut out)?;
+    run_over(faults, plan, document, none, &mut out)?;
     let lines = entity_lines(faults, plan)?;
-    filter_lines(faults, plan, document, lines, &mut out)
+    run_over(faults, plan, document, lines, &mut out)
 }
 
 /// Carries out a plan of a collection whose kept entities are written. Returns the exit status.
@@ -94,7 +84,7 @@ pub fn write_entities(
     document: &[u8],
     progress: &Progress<'_>,
 ) -> u8 {
-    let mut faults = RowFaults::none(request.format, false, progress);
+    let mut faults = RowFaults::none(request, progress);
     let ended = write_kept(&mut faults, plan, document);
     progress.clear();
     match ended {

@@ -2,8 +2,10 @@
 #![tactic(auto)]
 
 mod counted_run;
+mod explain_run;
 mod fault_lines;
 mod items_run;
+mod line_prefix;
 mod plan_run;
 mod progress;
 mod reports;

@@ -1,13 +1,17 @@
 //! A plan carried out, over the files that it names.
 use crate::counted_run::count_rows;
+use crate::explain_run::{explain_one, explains_row};
 use crate::fault_lines::{report, report_memory};
 use crate::items_run::write_entities;
+use crate::line_prefix::LinePrefix;
 use crate::progress::Progress;
 use crate::reports::{PlanRun, report_as_json, report_hints};
 use crate::streams::{Faults, Rows, Source, Written};
 use odata_filter::command_line::{Format, Plan, RunRequest, Verb};
-use odata_filter::{ReadAllError, read_whole, run_to_failure};
+use odata_filter::{Part, ReadAllError, part_of, read_whole, run_to_failure};
+use std::alloc::AllocError;
 use std::fs::File;
+use std::io;
 use std::io::{ErrorKind, Read, Stderr, Stdout};
 
 /// More of a schema file than this is of no use: one byte past the largest document.
@@ -22,26 +26,29 @@ pub fn schema_bytes(rt: &HostRuntime, name: &str) -> Result<Vec<u8>, ReadAllErro
     }
 }
 
-/// Where the rows come from that the plan names.
-fn source_of(rt: &HostRuntime, plan: &Plan<'_>) -> Option<Source> {
-    match plan.rows {
-        Some(name) => match File::open(rt, name) {
-            Ok(file) => Some(Source::File(file)),
-            Err(_) => None,
-        },
-        None => Some(Source::Stdin(rt.stdin())),
+/// Where the rows come from that the plan names, or one part of its file.
+pub fn source_of(rt: &HostRuntime, plan: &Plan<'_>, part: Option<Part>) -> io::Result<Source> {
+    let Some(name) = plan.rows else {
+        return Ok(Source::Stdin(rt.stdin()));
+    };
+    let file = File::open(rt, name)?;
+    match part {
+        Some(part) => Ok(Source::Part(part_of(rt.alloc(), file, part)?)),
+        None => Ok(Source::File(file)),
     }
 }
 
-/// The rows that the plan names.
+/// The rows that the plan names, or one part of its file; `None` if that cannot be opened, or has no parts.
 pub fn rows_of<'p, 'r>(
     rt: &HostRuntime,
     plan: &Plan<'_>,
+    part: Option<Part>,
     progress: &'p Progress<'r>,
-) -> Option<Rows<'p, 'r>> {
-    match source_of(rt, plan) {
-        Some(source) => Some(Rows { source, progress }),
-        None => None,
+) -> Result<Option<Rows<'p, 'r>>, AllocError> {
+    match source_of(rt, plan, part) {
+        Ok(source) => Ok(Some(Rows { source, progress })),
+        Err(error) if error.kind() == ErrorKind::OutOfMemory => Err(AllocError),
+        Err(_) => Ok(None),
     }
 }
 
@@ -54,17 +61,15 @@ fn output_of(rt: &HostRuntime, request: &RunRequest<'_>) -> Written<'static, Std
     }
 }
 
-/// Standard error for lines about faults, after the name of the file where there are several, unless these are written
-/// as JSON.
+/// Standard error for lines about faults, each after its prefix, unless these are written as JSON.
 pub fn faults_of<'p>(
     rt: &HostRuntime,
     request: &RunRequest<'_>,
     plan: &Plan<'p>,
 ) -> Written<'p, Stderr> {
-    match (request.format, plan.rows) {
-        (Format::Json, _) => Written::Nothing,
-        (Format::Text, Some(file)) if 1 < request.rows.len() => Written::Named(file, rt.stderr()),
-        (Format::Text, _) => Written::Stream(rt.stderr()),
+    match request.format {
+        Format::Json => Written::Nothing,
+        Format::Text => Written::After(LinePrefix::of(request, plan), rt.stderr()),
     }
 }
 
@@ -103,11 +108,14 @@ fn carry_out_over(
         progress,
         written: faults_of(rt, request, plan),
     };
-    let rows = rows_of(rt, plan, progress);
+    let Ok(rows) = rows_of(rt, plan, request.part, progress) else {
+        return report_memory(rt);
+    };
     let ended = run_to_failure(rt.alloc(), plan, document, rows, &mut out, &mut err);
     progress.clear();
     let run = PlanRun {
         plan,
+        part: request.part,
         document,
         ended: &ended,
     };
@@ -137,6 +145,11 @@ fn carry_out_one(
 
 /// Carries the plan out over each file of rows, up to the first that fails.
 fn carry_out_each<'r>(rt: &'r HostRuntime, request: &RunRequest<'r>, document: &[u8]) -> u8 {
+    if explains_row(request) {
+        if let Some(status) = explain_one(rt, request, document) {
+            return status;
+        }
+    }
     let progress = Progress::begin(rt);
     if request.count || request.skip_faulty {
         return count_rows(rt, request, document, &progress);

@@ -1,8 +1,9 @@
 //! What is said of a run beside its lines: to a person, and as JSON to a program.
 use crate::fault_lines::{report, report_memory};
+use crate::plan_run::source_of;
 use command_hints::{FailedRun, accepted_json, failure_hints, failure_json};
 use odata_filter::command_line::{Hints, Plan, Verb};
-use odata_filter::{Ended, Failure, LineReader, RunFault, read_whole};
+use odata_filter::{Ended, Failure, LineReader, Part, RunFault, read_whole};
 use std::alloc::AllocError;
 use std::fs::File;
 use std::io::{IsTerminal, Read};
@@ -10,16 +11,17 @@ use std::io::{IsTerminal, Read};
 /// So many bytes of a file show what it is.
 const FIRST_BYTES: u64 = 512;
 
-/// A plan that was carried out over one file of rows, and how that ended.
+/// A plan that was carried out over one file of rows or a part of it, and how that ended.
 #[derive(Clone, Copy)]
 pub struct PlanRun<'r, 'p> {
     pub plan: &'r Plan<'p>,
+    pub part: Option<Part>,
     pub document: &'r [u8],
     pub ended: &'r Ended<'p>,
 }
 
 /// Whether sentences for people are wanted.
-fn are_hints_wanted(rt: &HostRuntime, hints: Hints) -> bool {
+pub fn are_hints_wanted(rt: &HostRuntime, hints: Hints) -> bool {
     match hints {
         Hints::Auto => rt.stderr().is_terminal(),
         Hints::Always => true,
@@ -27,10 +29,10 @@ fn are_hints_wanted(rt: &HostRuntime, hints: Hints) -> bool {
     }
 }
 
-/// A copy of the line of that number of a file of rows, if the file still has it.
-fn line_of(rt: &HostRuntime, name: &str, line: u64) -> Option<Vec<u8>> {
-    let file = File::open(rt, name).ok()?;
-    let mut lines = LineReader::new(rt.alloc(), file);
+/// A copy of the line of that number of the rows, if their file still has it.
+fn line_of(rt: &HostRuntime, run: &PlanRun<'_, '_>, line: u64) -> Option<Vec<u8>> {
+    let source = source_of(rt, run.plan, run.part).ok()?;
+    let mut lines = LineReader::new(rt.alloc(), source);
     for _ in 1..line {
         let _ = lines.next_line().ok()??;
     }
@@ -47,14 +49,14 @@ fn first_bytes(rt: &HostRuntime, name: &str) -> Option<Vec<u8>> {
 
 /// A copy of the line of the row at fault, or of the first bytes of rows that are no collection or no lines, if these
 /// stand in a file.
-fn faulty_row(rt: &HostRuntime, plan: &Plan<'_>, failure: &Failure<'_>) -> Option<Vec<u8>> {
-    let name = plan.rows?;
+fn faulty_row(rt: &HostRuntime, run: &PlanRun<'_, '_>, failure: &Failure<'_>) -> Option<Vec<u8>> {
+    let name = run.plan.rows?;
     match failure {
         Failure::Rows(RunFault::Row { line, .. } | RunFault::Json { line }) => {
-            if plan.collection {
+            if run.plan.collection {
                 None
             } else {
-                line_of(rt, name, *line)
+                line_of(rt, run, *line)
             }
         }
         Failure::Rows(RunFault::NotACollection | RunFault::LineTooLong { .. }) => {
@@ -66,9 +68,10 @@ fn faulty_row(rt: &HostRuntime, plan: &Plan<'_>, failure: &Failure<'_>) -> Optio
 
 /// Says to a person why a run failed. A program reads the line that the run has written alone.
 fn say_why<'r, 'p>(rt: &HostRuntime, run: &PlanRun<'r, 'p>, failure: &'r Failure<'p>) {
-    let row = faulty_row(rt, run.plan, failure);
+    let row = faulty_row(rt, run, failure);
     let failed = FailedRun {
         plan: run.plan,
+        part: run.part,
         document: run.document,
         failure,
         row: row.as_deref(),
@@ -94,7 +97,7 @@ pub fn report_hints(rt: &HostRuntime, hints: Hints, run: &PlanRun<'_, '_>) {
 }
 
 /// Writes an object to standard output, with the status of the run.
-fn write_object(rt: &HostRuntime, object: &str, status: u8) -> u8 {
+pub fn write_object(rt: &HostRuntime, object: &str, status: u8) -> u8 {
     match println!(rt; "{object}") {
         Ok(()) => status,
         Err(_) => report(rt, "write", 5),
@@ -103,7 +106,7 @@ fn write_object(rt: &HostRuntime, object: &str, status: u8) -> u8 {
 
 /// Writes the object of an accepted filter.
 fn report_accepted(rt: &HostRuntime, plan: &Plan<'_>, document: &[u8]) -> u8 {
-    match accepted_json(rt.alloc(), plan, document) {
+    match accepted_json(rt.alloc(), plan, document, None) {
         Ok(Some(object)) => write_object(rt, object.as_str(), 0),
         Ok(None) => 0,
         Err(AllocError) => report_memory(rt),
@@ -116,6 +119,7 @@ fn report_failure<'r, 'p>(rt: &HostRuntime, run: &PlanRun<'r, 'p>, failure: &'r 
     let status = failure.status();
     let failed = FailedRun {
         plan: run.plan,
+        part: run.part,
         document: run.document,
         failure,
         row: None,

@@ -1,8 +1,10 @@
 //! The faults of rows that a run passes over: each is reported, and counted by its name.
 use crate::fault_lines::report;
+use crate::line_prefix::LinePrefix;
 use crate::progress::Progress;
-use command_hints::{bad_row_json, bad_row_name};
-use odata_filter::command_line::Format;
+use crate::reports::are_hints_wanted;
+use command_hints::{bad_row_json, bad_row_name, bad_row_sentence};
+use odata_filter::command_line::{Format, RunRequest};
 use odata_filter::{BadRow, TakesFaults};
 use std::alloc::AllocError;
 
@@ -13,10 +15,12 @@ pub struct RowFaults<'p, 'r> {
     pub format: Format,
     /// Whether rows at fault are passed over.
     pub is_passing: bool,
+    /// Whether a sentence follows each line.
+    pub says_why: bool,
     /// The file that is read, of several or for an object.
     pub file: Option<&'r str>,
-    /// Whether lines name the file.
-    pub names_file: bool,
+    /// What stands before each line.
+    pub prefix: LinePrefix<'r>,
     pub progress: &'p Progress<'r>,
     /// How many rows had the fault of that name, in the order in which the names came.
     pub counts: Vec<(&'static str, u64)>,
@@ -24,13 +28,14 @@ pub struct RowFaults<'p, 'r> {
 
 impl<'p, 'r> RowFaults<'p, 'r> {
     /// None so far. Those of rows that are at fault are passed over, or end the run.
-    pub fn none(format: Format, is_passing: bool, progress: &'p Progress<'r>) -> RowFaults<'p, 'r> {
+    pub fn none(request: &RunRequest<'_>, progress: &'p Progress<'r>) -> RowFaults<'p, 'r> {
         RowFaults {
             rt: progress.rt,
-            format,
-            is_passing,
+            format: request.format,
+            is_passing: request.skip_faulty,
+            says_why: are_hints_wanted(progress.rt, request.hints),
             file: None,
-            names_file: false,
+            prefix: LinePrefix::Nothing,
             progress,
             counts: Vec::new(progress.rt.alloc()),
         }
@@ -67,22 +72,34 @@ impl<'p, 'r> RowFaults<'p, 'r> {
 
     /// Writes the line of a fault.
     fn write_line(&self, number: u64, fault: &BadRow) {
-        let _ = match self.file {
-            Some(file) if self.names_file => {
-                report(self.rt, format_args!("{file}: row {number} {fault}"), 4)
-            }
-            _ => report(self.rt, format_args!("row {number} {fault}"), 4),
-        };
+        let prefix = self.prefix;
+        let _ = report(self.rt, format_args!("{prefix}row {number} {fault}"), 4);
     }
 
-    /// Writes the object or the line of a fault.
+    /// Says to a person why a row is at fault, if there is memory for it.
+    fn say_why(&self, fault: &BadRow) {
+        match bad_row_sentence(self.rt.alloc(), fault) {
+            Ok(Some(sentence)) => {
+                let _ = report(self.rt, sentence.as_str(), 4);
+            }
+            Ok(None) => {}
+            Err(_) => {}
+        }
+    }
+
+    /// Writes the object of a fault, or its line and what is said of it.
     fn write(&self, number: u64, fault: &BadRow) {
         self.progress.clear();
         match self.object_of(number, fault) {
             Some(object) => {
                 let _ = report(self.rt, object.as_str(), 4);
             }
-            None => self.write_line(number, fault),
+            None => {
+                self.write_line(number, fault);
+                if self.says_why {
+                    self.say_why(fault);
+                }
+            }
         }
     }
 }

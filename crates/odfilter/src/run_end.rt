@@ -20,6 +20,7 @@ pub fn report_end<'p>(
     };
     let run = PlanRun {
         plan,
+        part: request.part,
         document,
         ended: &ended,
     };
@@ -33,7 +34,7 @@ pub fn report_end<'p>(
     }
 }
 
-/// Writes the line of a failure, after the name of the file where there are several.
+/// Writes the line of a failure, after its prefix.
 fn report_line(rt: &HostRuntime, request: &RunRequest<'_>, run: &PlanRun<'_, '_>) {
     let mut err = faults_of(rt, request, run.plan);
     match &run.ended.failure {

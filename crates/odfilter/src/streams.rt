@@ -1,5 +1,7 @@
 //! The streams of a run.
+use crate::line_prefix::LinePrefix;
 use crate::progress::Progress;
+use odata_filter::PartReader;
 use std::fs::File;
 use std::io;
 use std::io::{Cursor, Read, Stderr, Stdin, Write};
@@ -8,8 +10,20 @@ use std::io::{Cursor, Read, Stderr, Stdin, Write};
 #[derive(Drop)]
 pub enum Source {
     File(File),
+    Part(PartReader<File>),
     Stdin(Stdin),
     Held(Cursor<Vec<u8>>),
+}
+
+impl Read for Source {
+    fn read(&mut self, bytes: &mut [u8]) -> io::Result<usize> {
+        match self {
+            Source::File(file) => file.read(bytes),
+            Source::Part(part) => part.read(bytes),
+            Source::Stdin(stdin) => stdin.read(bytes),
+            Source::Held(held) => held.read(bytes),
+        }
+    }
 }
 
 /// Rows that are read, and how far that has come. A run over any source is the same code, which is in memory once.
@@ -21,12 +35,10 @@ pub struct Rows<'p, 'r> {
 
 impl Read for Rows<'_, '_> {
     fn read(&mut self, bytes: &mut [u8]) -> io::Result<usize> {
-        let count = match &mut self.source {
-            Source::File(file) => file.read(bytes),
-            Source::Stdin(stdin) => stdin.read(bytes),
-            Source::Held(held) => return held.read(bytes),
-        }?;
-        self.progress.read(bytes.get(..count).unwrap_or(&[]));
+        let count = self.source.read(bytes)?;
+        if !matches!(&self.source, Source::Held(_)) {
+            self.progress.read(bytes.get(..count).unwrap_or(&[]));
+        }
         Ok(count)
     }
 }
@@ -53,35 +65,37 @@ impl Write for Faults<'_, '_, '_> {
 #[derive(Drop)]
 pub enum Written<'n, W> {
     Stream(W),
-    /// With the name of a file and `: ` before the first bytes.
-    Named(&'n str, W),
+    /// With that before the first bytes.
+    After(LinePrefix<'n>, W),
     Nothing,
 }
 
-/// Writes the name of a file and `: `.
-fn write_name<W: Write>(stream: &mut W, name: &str) -> io::Result<()> {
-    stream.write_all(name.as_bytes())?;
-    stream.write_all(b": ")
+impl<W: Write> Written<'_, W> {
+    /// Writes what stands before the first bytes, once.
+    fn write_prefix(&mut self) -> io::Result<()> {
+        let before = match self {
+            Written::After(prefix, _) => std::mem::replace(prefix, LinePrefix::Nothing),
+            _ => return Ok(()),
+        };
+        match self {
+            Written::After(_, stream) => write!(stream, "{before}"),
+            _ => Ok(()),
+        }
+    }
 }
 
 impl<W: Write> Write for Written<'_, W> {
     fn write(&mut self, bytes: &[u8]) -> io::Result<usize> {
+        self.write_prefix()?;
         match self {
-            Written::Stream(stream) => stream.write(bytes),
-            Written::Named(name, stream) => {
-                if !name.is_empty() {
-                    write_name(stream, name)?;
-                    *name = "";
-                }
-                stream.write(bytes)
-            }
+            Written::Stream(stream) | Written::After(_, stream) => stream.write(bytes),
             Written::Nothing => Ok(bytes.len()),
         }
     }
 
     fn flush(&mut self) -> io::Result<()> {
         match self {
-            Written::Stream(stream) | Written::Named(_, stream) => stream.flush(),
+            Written::Stream(stream) | Written::After(_, stream) => stream.flush(),
             Written::Nothing => Ok(()),
         }
     }

@@ -46,7 +46,7 @@ fn write_types(rt: &HostRuntime, listing: &TypeListing, format: Format) -> u8 {
 }
 
 /// Reports why a document has no listing, and returns the status.
-fn report_failure(
+fn report_schema_fault(
     rt: &HostRuntime,
     request: &TypesRequest<'_>,
     document: &[u8],
@@ -69,6 +69,7 @@ fn report_failure(
     };
     let run = PlanRun {
         plan: &plan,
+        part: None,
         document,
         ended: &ended,
     };
@@ -92,6 +93,8 @@ pub fn list_types(rt: &HostRuntime, request: &TypesRequest<'_>) -> u8 {
     };
     match TypeListing::read(rt.alloc(), document.as_slice()) {
         Ok(listing) => write_types(rt, &listing, request.format),
-        Err(fault) => report_failure(rt, request, document.as_slice(), Failure::Schema(fault)),
+        Err(fault) => {
+            report_schema_fault(rt, request, document.as_slice(), Failure::Schema(fault))
+        }
     }
 }
