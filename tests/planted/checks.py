@@ -80,19 +80,26 @@ class Said:
         self.status, self.lines, self.seconds = status, lines, seconds
 
 
-def check(repository, name, texts, functions, kept):
-    """Checks a copy of a crate with other texts, over what earlier checks of it have kept in a folder.
-
-    Only the functions that are named and those that they call are checked: of these functions nothing is left out."""
+def check(repository, name, texts, functions, kept, more=()):
+    """Checks a copy of a crate with other texts, none for a file that goes, over what earlier checks of it have kept in
+    a folder. Only the functions that are named and those that they call are checked."""
     with tempfile.TemporaryDirectory(prefix="planted-") as room:
         for part in ("src", "specs", "proofs"):
             if os.path.isdir(f"{repository.folder(name)}/{part}"):
                 shutil.copytree(f"{repository.folder(name)}/{part}", f"{room}/{part}")
         for path, text in texts.items():
-            with open(f"{room}/{path}", "w", encoding="utf-8") as out:
-                out.write(text)
+            put(f"{room}/{path}", text)
         only = [word for it in functions for word in ("--only", it)]
-        return run([*repository.words(name), "--incremental", kept, *only], room)
+        return run([*repository.words(name), "--incremental", kept, *more, *only], room)
+
+
+def put(path, text):
+    if text is None:
+        os.remove(path)
+        return
+    os.makedirs(os.path.dirname(path), exist_ok=True)
+    with open(path, "w", encoding="utf-8") as out:
+        out.write(text)
 
 
 def run(line, folder):

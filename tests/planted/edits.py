@@ -68,7 +68,7 @@ class Edit:
 
     def __init__(self, path, sources):
         self.name = os.path.basename(path).removesuffix(".edit")
-        self.pairs, self.functions, self.has_constant = pairs_in(text_of(path)), [], False
+        self.pairs, self.functions = pairs_in(text_of(path)), []
         for pair in self.pairs:
             self.find(sources, pair)
         if not self.functions:
@@ -98,7 +98,7 @@ class Edit:
         if inside and line < inside[0].body[0]:
             raise FaultyEdit(f"it changes the contract of {inside[0].name}, and not its code")
         if not inside and constant:
-            inside, self.has_constant = sources.users_of(constant), True
+            inside = sources.users_of(constant)
         elif not inside and not re.match(r"(pub(\(\w+\))? )?use ", text.split("\n")[line - 1]):
             raise FaultyEdit(f"line {line} of {pair.file} is neither in a function nor in a constant")
         self.functions += [it for it in inside if it not in self.functions]
@@ -115,11 +115,11 @@ def files_of(folder):
             yield from (f"{folder}/{part}/{it}" for it in names)
 
 
-def batches_of(edits):
-    """The edits in batches, each of which one check can judge: no two change one function or one cycle."""
+def batches_of(edits, sources):
+    """The edits in batches, each of which one check can judge: no two change one function or share a proof."""
     batches = []
     for edit in edits:
-        fitting = None if edit.has_constant else next((it for it in batches if it.takes(edit)), None)
+        fitting = next((it for it in batches if it.takes(edit, sources)), None)
         if fitting is None:
             batches.append(fitting := Batch())
         fitting.add(edit)
@@ -134,9 +134,12 @@ class Batch:
         for edit in edits:
             self.add(edit)
 
-    def takes(self, edit):
+    def takes(self, edit, sources):
         """Whether an edit fits beside those that are there."""
-        if any(it.has_constant or it.keys() & edit.keys() for it in self.edits):
+        if any(it.keys() & edit.keys() for it in self.edits):
+            return False
+        pairs = [(one, two) for it in self.edits for one in it.functions for two in edit.functions]
+        if any(sources.leans(one, two) or sources.leans(two, one) for one, two in pairs):
             return False
         try:
             edit.applied(self.texts)

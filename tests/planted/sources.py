@@ -11,6 +11,13 @@ CONSTANT = re.compile(r"( *)(?:pub(?:\([\w: ]+\))? )?(?:const|static) (\w+)\b")
 TYPE = re.compile(r"^(?:pub(?:\([\w: ]+\))? )?(?:struct|enum) (\w+)", re.MULTILINE)
 CYCLE = re.compile(r"#\[cycle\((\w+)\)\]")
 CLAUSE = re.compile(r"\s+(?:requires|ensures|ghost)\b")
+# of a file of proofs the name that a part of it makes, and each name that stands in it
+HEAD = re.compile(r"^(?:abbrev )?(?:pub )?(?!use |module |open )([^\s:]\S*) :", re.MULTILINE)
+NAME = re.compile(r"(?<![\w.:+-])(?:goal\.)?([^\s(){}\[\],;.]+)")
+# what a text names of a crate's proofs
+PROOFS = re.compile(r"\bRattle\.\w+\.proofs\.([^\s{]+)|\bcrate::proofs::([\w:+]+)")
+# what the prover reads of a function's proof in its folder
+PARTS = ("Answers.antt", "Invariants.antt", "Proof.antt")
 
 
 def text_of(path):
@@ -35,23 +42,26 @@ class Function:
         return module_of(self.path)
 
     def key(self):
-        """What two bugs of one check may not share: a cycle has one proof of all its functions."""
-        return ("cycle", self.cycle) if self.cycle else (self.path, self.name)
+        """What two bugs of one check may not share. The functions of a cycle have one proof, but goals of their own."""
+        return (self.path, self.name)
+
+    def proof_folders(self):
+        """The folders in which its proof may stand: a function that calls itself is a cycle of its own."""
+        outer, _, short = f"proofs/{self.name}".replace("::", "/").rpartition("/")
+        return f"{outer}/{short}", f"{outer}/+{short}"
 
     def is_answer(self, path):
         """Whether a file of proofs answers goals of this function or of its cycle."""
         folder, _, file = path.rpartition("/")
-        if file not in ("Answers.antt", "Invariants.antt", "Proof.antt"):
+        if file not in PARTS:
             return False
         if self.cycle:
             return folder == "proofs" or folder.startswith("proofs/") and folder.endswith(f"/+{self.cycle}")
-        # a function that calls itself is a cycle of its own
-        outer, _, short = f"proofs/{self.name}".replace("::", "/").rpartition("/")
-        return folder in (f"{outer}/{short}", f"{outer}/+{short}")
+        return folder in self.proof_folders()
 
     def has_goal(self, goal):
         """Whether a goal of its proof is its own: in a cycle of several functions a goal begins with one's name."""
-        return not self.beside or goal.partition("-")[0].rpartition("::")[2] == self.short
+        return not self.beside or f"::{self.name}".endswith(f"::{goal.partition('-')[0]}")
 
 
 def module_of(path):
@@ -66,13 +76,26 @@ def words_of(text, parameters=()):
     return "".join(it[0].upper() + it[1:] for it in words if it not in parameters)
 
 
+def listed(text):
+    """The parts of a list, between the commas that no bracket holds."""
+    parts, depth, start = [], 0, 0
+    for at, letter in enumerate(text):
+        depth += letter in "(<[{"
+        depth -= letter in ")]}" or letter == ">" and text[at - 1] != "-"
+        if letter == "," and depth == 0:
+            parts.append(text[start:at].strip())
+            start = at + 1
+    return [it for it in [*parts, text[start:].strip()] if it]
+
+
 def parameters_of(rest):
-    """The parameters of a block by their names, and what follows them."""
+    """The parameters of a block or of a function by their names, but for lifetimes, and what follows them."""
     depth = 0
     for at, letter in enumerate(rest if rest.startswith("<") else ""):
         depth += (letter == "<") - (letter == ">" and rest[at - 1] != "-")
         if depth == 0:
-            return re.findall(r"(?:^<|, )(\w+)", rest[:at]), rest[at + 1 :]
+            names = [re.match(r"(?:const )?(\w+)", it) for it in listed(rest[1:at])]
+            return [it[1] for it in names if it], rest[at + 1 :]
     return [], rest
 
 
@@ -98,12 +121,11 @@ def end_of(lines, start, indent):
 
 
 def body_of(lines, start, end, indent):
-    """The line on which the body of a function begins: after its signature and its clauses."""
+    """The line on which the body of a function begins: after its signature and its clauses, where it has some."""
     for number in range(start, end + 1):
-        is_header = lines[number].endswith(" {") and not CLAUSE.match(lines[number])
-        if is_header or lines[number] in (f"{indent}{{", f"{indent}{{}}"):
+        if lines[number] in (f"{indent}{{", f"{indent}{{}}"):
             return number
-    return end
+    return next((it for it in range(start, end + 1) if lines[it].endswith(" {")), end)
 
 
 def functions_in(path, text):
@@ -137,12 +159,17 @@ def constants_in(text):
             yield found[2], (at + 1, end + 1)
 
 
+def texts_in(folder, part, ending):
+    """The texts of a part of a crate, by their paths from the crate's folder."""
+    found = [os.path.join(at, name) for at, _, names in os.walk(f"{folder}/{part}") for name in names]
+    return {os.path.relpath(path, folder): text_of(path) for path in sorted(found) if path.endswith(ending)}
+
+
 class Sources:
     """The sources of a crate, each a text by its path from the crate's folder."""
 
     def __init__(self, folder):
-        found = [os.path.join(at, name) for at, _, names in os.walk(f"{folder}/src") for name in names]
-        self.texts = {os.path.relpath(path, folder): text_of(path) for path in sorted(found) if path.endswith(".rt")}
+        self.texts, self.proofs = texts_in(folder, "src", ".rt"), texts_in(folder, "proofs", ".antt")
         self.functions = {path: list(functions_in(path, text)) for path, text in self.texts.items()}
         homes = self.homes()
         for function in (listed := [it for path in self.texts for it in self.functions[path]]):
@@ -171,6 +198,41 @@ class Sources:
                 for name, (first, last) in constants_in(text):
                     names |= {name} if word.search("\n".join(lines[first - 1 : last])) else set()
         return [it for path in self.texts for it in self.functions[path] if word.search(self.body_text(it))]
+
+    def proofs_below(self, functions):
+        """The modules of proofs, each as a path, that the proofs of functions name, or lemmas that these name, and so
+        on. The last word of a path may be a lemma's name."""
+        texts = [text for path, text in self.proofs.items() if any(it.is_answer(path) for it in functions)]
+        texts += ["\n".join(self.texts[it.path].split("\n")[it.lines[0] - 1 : it.body[0]]) for it in functions]
+        found = set()
+        while texts:
+            named = {(one or two.replace("::", ".")).strip(".") for one, two in PROOFS.findall(texts.pop())}
+            new = {it.replace(".", "/") for it in named} - found
+            found |= new
+            files = [f"proofs/{it}.antt" for path in new for it in (path, os.path.dirname(path))]
+            texts += [self.proofs[it] for it in files if it in self.proofs]
+        return found
+
+    def answers_of(self, function):
+        """Each goal of a function of a cycle that a file answers, with the names that stand in the answer, or in the
+        lemmas of that file that it names, and so on. The name of a field is none of these."""
+        for text in (self.proofs[it] for it in self.proofs if function.is_answer(it)):
+            heads = [(HEAD.search(it), it) for it in text.split("\n\n")]
+            parts = {head[1]: set(NAME.findall(it)) for head, it in heads if head}
+            for goal in filter(function.has_goal, parts):
+                names, seen = set(parts[goal]), {goal}
+                while more := names & parts.keys() - seen:
+                    seen |= more
+                    names.update(*(parts[it] for it in more))
+                yield goal, names
+
+    def leans(self, function, other):
+        """Whether the proof of a function names what belongs to that of another one: a goal of it, or its answer."""
+        if function.cycle and function.cycle == other.cycle:
+            return any(other.has_goal(it) for goal, names in self.answers_of(function) for it in names if "-" in it)
+        folders = [*other.proof_folders(), *(os.path.dirname(it) for it in self.proofs if other.is_answer(it))]
+        below = [f"proofs/{it}/" for it in self.proofs_below([function])]
+        return any(it.startswith(f"{folder}/") for it in below for folder in folders)
 
     def body_text(self, function):
         return "\n".join(self.texts[function.path].split("\n")[function.body[0] - 1 : function.body[1]])

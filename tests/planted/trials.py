@@ -10,14 +10,16 @@ import threading
 from .checks import LIMIT_OF_MEMORY, check, free_memory, wait_for_room
 from .edits import Batch, Edit, FaultyEdit, batches_of, files_of
 from .sources import Sources
-from .verdicts import is_judged, refusal
+from .stand_ins import StandIns
+from .verdicts import is_accepted, is_judged, refusal
 
 
 class Trial:
     """The planted bugs of a crate, or some of them: what each was refused at, and what did not go as it must."""
 
-    def __init__(self, repository, name, wanted=()):
+    def __init__(self, repository, name, wanted=(), is_planted=True):
         self.repository, self.name, self.wanted = repository, name, set(wanted)
+        self.judge = self.judge_planted if is_planted else self.judge_unplanted
         self.passed, self.failed, self.lines = 0, 0, []
         self.checks, self.seconds, self.counting = 0, 0.0, threading.Lock()
 
@@ -30,7 +32,7 @@ class Trial:
                 self.fails(edit.name, f"the library {lacking[0]} is not built: run rt ci, or rt lib in its folder")
         elif edits:
             with tempfile.TemporaryDirectory(prefix="planted-kept-") as kept:
-                first, *others = sorted(batches_of(edits), key=lambda it: -len(it.edits))
+                first, *others = sorted(batches_of(edits, self.sources), key=lambda it: -len(it.edits))
                 self.judge(first, kept)
                 with concurrent.futures.ThreadPoolExecutor(len(others) or 1) as pool:
                     list(pool.map(lambda it: self.judge_apart(it, kept), others))
@@ -40,32 +42,50 @@ class Trial:
 
     def edits(self):
         """The edits that fit the sources; each of the others has failed."""
-        sources, found, left = Sources(self.repository.folder(self.name)), [], set(self.wanted)
+        self.sources, found, left = Sources(self.repository.folder(self.name)), [], set(self.wanted)
         for path in files_of(self.repository.folder(self.name)):
             name = os.path.basename(path).removesuffix(".edit")
             if self.wanted and name not in self.wanted:
                 continue
             left.discard(name)
             try:
-                found.append(Edit(path, sources))
+                found.append(Edit(path, self.sources))
             except FaultyEdit as fault:
                 self.fails(name, f"FAULTY EDIT: {fault}")
         for name in sorted(left):
             self.fails(name, "there is no such edit")
         return found
 
-    def judge(self, batch, kept):
-        """Checks a batch; an edit that it does not show to be refused is tried alone."""
-        said = self.check(batch, kept)
+    def judge_unplanted(self, batch, kept):
+        """Checks the functions of a batch as they are, by the contracts of what they call: none may be refused so."""
+        said = self.check(batch, kept, StandIns(self.name, self.sources, batch.functions()), self.sources.texts)
         for edit in batch.edits:
-            goals, how, shown = refusal(edit, said, batch.edits), "", said
-            if not goals and len(batch.edits) > 1:
-                shown = self.check(Batch([edit]), kept)
-                goals, how = refusal(edit, shown), ", tried alone"
-            if goals:
-                self.passes(edit.name, goals, how)
+            refused = [it.name for it in edit.functions if not is_judged(said) or not is_accepted(it, said)]
+            if refused:
+                self.fails(edit.name, f"REFUSED WITHOUT IT: {', '.join(refused)}")
             else:
-                self.fails(edit.name, why_not(edit, shown))
+                self.passes(edit.name, "not refused without it")
+
+    def judge_planted(self, batch, kept):
+        """Checks a batch by the contracts of what it calls. Edits that are not refused so are tried with all as it is,
+        and those that are not refused then alone."""
+        said = self.check(batch, kept, StandIns(self.name, self.sources, batch.functions()))
+        left = self.without_refused(batch, said, "")
+        if len(left) > 1:
+            batch = Batch(left)
+            left = self.without_refused(batch, self.check(batch, kept), ", with all as it is")
+        for edit in left:
+            said = self.check(Batch([edit]), kept)
+            if self.without_refused(Batch([edit]), said, ", tried alone"):
+                self.fails(edit.name, why_not(edit, said))
+
+    def without_refused(self, batch, said, how):
+        """The edits of a batch that a check does not show to be refused; the others have passed."""
+        goals = {edit: refusal(edit, said, batch.edits) for edit in batch.edits}
+        for edit in filter(goals.get, batch.edits):
+            more = f" and {len(goals[edit]) - 2} more" if len(goals[edit]) > 2 else ""
+            self.passes(edit.name, f"refused at {', '.join(goals[edit][:2])}{more}{how}")
+        return [edit for edit in batch.edits if not goals[edit]]
 
     def judge_apart(self, batch, kept):
         """Checks a batch beside others, over what the first one has kept, and keeps nothing for them."""
@@ -73,19 +93,20 @@ class Trial:
             shutil.copytree(kept, f"{room}/kept", copy_function=link_or_copy)
             self.judge(batch, f"{room}/kept")
 
-    def check(self, batch, kept):
+    def check(self, batch, kept, stand_ins=None, texts=None):
         functions = dict.fromkeys(it.name for it in batch.functions())
+        texts, more = texts or batch.texts, ["--allow-holes"] if stand_ins else []
+        texts = stand_ins.texts(texts) if stand_ins else texts
         with self.place():
-            said = check(self.repository, self.name, batch.texts, functions, kept)
+            said = check(self.repository, self.name, texts, functions, kept, more)
         with self.counting:
             self.checks, self.seconds = self.checks + 1, self.seconds + said.seconds
         return said
 
-    def passes(self, name, goals, how=""):
-        more = f" and {len(goals) - 2} more" if len(goals) > 2 else ""
+    def passes(self, name, what):
         with self.counting:
             self.passed += 1
-            self.lines.append(f"{self.name}/{name}: refused at {', '.join(goals[:2])}{more}{how}")
+            self.lines.append(f"{self.name}/{name}: {what}")
 
     def fails(self, name, why):
         with self.counting:

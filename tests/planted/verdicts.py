@@ -8,6 +8,7 @@ import re
 
 ERROR = re.compile(r"(?:\./)?(proofs/\S+?):\d+:\d+: error: (?:in )?`([^`]+)`: (.*)")
 NOTE = re.compile(r"note: (?:\./)?(src/\S+?):(\d+):\d+: it is not proved .*?\((`[^)]*)\)")
+ACCEPTED = re.compile(r"fn (\S+): (?:proved|no holes|depends on a hole)\b")
 REFUSED = re.compile(r"fn (\S+): (?:not proved|no proof)\b(.*)")
 SEARCHED = re.compile(r"`search` did not prove (`[^`]+`(?:, `[^`]+`)*)")
 # errors about a name that the edit took away, or about a proof that rests on another one that was refused
@@ -19,7 +20,7 @@ UNREAD = re.compile(r"(\S+?:\d+:\d+: )?error\[|(\./)?(src|specs)/\S+?:\d+:\d+: e
 def is_judged(said):
     """Whether the check has read the edited crate and has come to a verdict on the functions that were asked for."""
     end = next((line for line in reversed(said.lines) if line), "")
-    is_ended = re.match(r"only=\d+ proved=\d+$", end) is not None
+    is_ended = re.match(r"only=\d+ (proved|holes)=\d+$", end) is not None
     return is_ended and said.status in (0, 1) and not any(UNREAD.match(line) for line in said.lines)
 
 
@@ -40,6 +41,12 @@ def goals_of(function, said):
 
 def is_refused(function, said):
     return any(it and names(it[1].partition("::")[2], function) for it in map(REFUSED.match, said.lines))
+
+
+def is_accepted(function, said):
+    """Whether the check leaves no goal of a function open."""
+    found = [it for it in map(ACCEPTED.match, said.lines) if it and names(it[1].partition("::")[2], function)]
+    return bool(found) and not is_refused(function, said) and not goals_of(function, said)
 
 
 def names(reported, function):
