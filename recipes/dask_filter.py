@@ -1,22 +1,23 @@
 #!/usr/bin/python3
-"""Filters rows on many machines, by dask.distributed: each block of rows is judged where a worker is free.
+"""Filters rows on many machines, by dask.distributed: each part of a file of rows is judged where a worker is free.
 
     dask_filter.py SCHEDULER --schema FILE --type NAME --filter TEXT [--now MOMENT] [--block BYTES] ROWS..
 
-ROWS are files of one JSON object a line, or folders, whose files are taken in the order of their names. They are cut
-into blocks at line ends. The kept lines are written to standard output in the order of the input: what one
-`odfilter filter` over all of the files writes. The first row at fault ends the run: what is kept before it is written,
-then `FILE: row 3 Missing Active` is reported, with the line in that file. The statuses are those of docs/CLI.md.
+ROWS are files of one JSON object a line, or folders, whose files are taken in the order of their names. A file is cut
+into equal parts of about so many bytes, by `odfilter filter --part K/N`. The kept lines are written to standard output
+in the order of the input: what one `odfilter filter` over all of the files writes. The first row at fault ends the run:
+what is kept before it is written, then `FILE: row 3 Missing Active` is reported, with the line in that file. The
+statuses are those of docs/CLI.md.
 
-A worker that dies loses nothing and doubles nothing: its blocks are judged again, and each is written once. One that
+A worker that dies loses nothing and doubles nothing: its parts are judged again, and each is written once. One that
 joins takes part. With none left the run waits for the next.
 
-On each machine: `apt-get install python3-distributed`, a folder with bindings/python/odfilter and libodfilter.so, as /opt/odfilter,
-and the rows by the same path. Then, with one thread for each core of the workers:
+On each machine: `apt-get install python3-distributed`, the program (`odfilter` on the path, or what the variable
+ODFILTER names), and the schema and the rows by the same paths. Then, with one thread for each core of the workers:
 
-    dask-scheduler --port 8786                                                   # on one of them
-    PYTHONPATH=/opt/odfilter dask-worker tcp://HOST:8786 --nthreads 4            # on each
-    PYTHONPATH=/opt/odfilter recipes/dask_filter.py tcp://HOST:8786 --schema ..  # where the lines are wanted
+    dask-scheduler --port 8786                            # on one of them
+    dask-worker tcp://HOST:8786 --nthreads 4              # on each
+    recipes/dask_filter.py tcp://HOST:8786 --schema ..    # where the lines are wanted
 
 It is Debian's Python that has dask, so that runs this file. Whoever reaches the port of a scheduler can run programs on
 its workers: keep it within a network that you trust, or use dask's TLS.
@@ -25,20 +26,20 @@ import argparse
 import collections
 import logging
 import os
+import subprocess
 import sys
-import threading
-import uuid
 
-import odfilter
-from distributed import Client, WorkerPlugin, get_worker
+from distributed import Client
 from distributed.scheduler import KilledWorker
 
 BLOCK = 16 << 20  # bytes of rows that one task judges
-LINE_LIMIT = 1 << 20  # a longer line is at fault
-PIECE = 1 << 16  # bytes that are read at once to find where a line ends
+PIECE = 1 << 20  # bytes that are read at once to count lines
 WAIT = 60  # seconds for the first worker to join
 
-Block = collections.namedtuple("Block", "path start stop")
+# one of so many equal parts of a file that has so many bytes
+Part = collections.namedtuple("Part", "path size number parts")
+# what the program wrote about a part, and its status
+Answer = collections.namedtuple("Answer", "kept reported status")
 
 
 class Stop(Exception):
@@ -49,46 +50,18 @@ class Stop(Exception):
         self.status = status
 
 
-class Filtering(WorkerPlugin):
-    """The filter of a run, which a worker reads once, when it joins, and judges all of its blocks by."""
-
-    def __init__(self, *words):
-        self.words, self.name = words, f"odfilter-{uuid.uuid4()}"
-        self.filter = self.of_thread = None
-
-    def setup(self, worker):
-        document, named, text, _ = self.words
-        with odfilter.Schema(document) as schema, schema.type(named) as of_type:
-            self.filter = of_type.check(text)
-        self.of_thread = threading.local()
-        logging.getLogger("distributed.worker").info("odfilter: schema and filter read")
-
-    def teardown(self, worker):
-        if self.filter is not None:
-            self.filter.close()
-
-    def judge(self):
-        """The judge of this thread, made for its first block."""
-        if not hasattr(self.of_thread, "judge"):
-            self.of_thread.judge = self.filter.judge(self.words[-1])
-        return self.of_thread.judge
-
-    def answer(self, rows):
-        """The kept lines, how many lines there are, and no fault; or those up to the one at fault, and its fault."""
-        try:
-            return self.judge().filter_lines(rows).text, rows.count(b"\n"), None
-        except odfilter.RowFault as fault:
-            return fault.kept, fault.line, fault.reported
+def answer_of(words, path, *more):
+    """What the program says of the rows of a file."""
+    line = [os.environ.get("ODFILTER", "odfilter"), "filter", *words, "--hints=never", f"--rows={path}", *more]
+    done = subprocess.run(line, stdin=subprocess.DEVNULL, capture_output=True, check=False)
+    return done.stdout, done.stderr.decode(errors="replace").rstrip("\n"), done.returncode
 
 
-def answer_of(name, path, start, stop):
-    """The answer of a block, on a worker."""
-    with open(path, "rb") as file:
-        file.seek(start)
-        rows = file.read(stop - start)
-    if len(rows) < stop - start:
-        raise OSError("it has become shorter")
-    return get_worker().plugins[name].answer(rows)
+def answer_of_part(words, path, size, number, parts):
+    """What the program says of a part of a file, on a worker."""
+    if os.stat(path).st_size != size:
+        raise OSError("its length has changed")
+    return answer_of(words, path, f"--part={number}/{parts}")
 
 
 def opened(path):
@@ -107,85 +80,84 @@ def files_of(paths):
                 yield file
 
 
-def line_end(file, place, limit):
-    """Where the line ends that has the byte before an offset; no further than the limit."""
-    place -= 1
-    file.seek(place)
-    while place < limit:
-        piece = file.read(min(PIECE, limit - place))
-        found = piece.find(b"\n")
-        if found >= 0 or not piece:
-            return place + found + 1
-        place += len(piece)
-    return place
-
-
-def blocks_of(path, size):
-    """The blocks of a file: each ends with a line, or in one that is longer than a line may be."""
+def parts_of(path, block):
+    """The parts of a file, of about so many bytes."""
     with opened(path) as file:
-        start, end = 0, os.fstat(file.fileno()).st_size
-        while start < end:
-            stop = min(start + size, end)
-            stop = line_end(file, stop, min(stop + LINE_LIMIT + 1, end))
-            yield Block(path, start, stop)
-            start = stop
+        size = os.fstat(file.fileno()).st_size
+    parts = -(-size // block)
+    for number in range(1, parts + 1):
+        yield Part(path, size, number, parts)
 
 
-def judged(client, name, blocks):
-    """Each block with its answer to come, in order; under way are no more than two for each thread of the workers."""
+def lines_before(part):
+    """How many lines of its file begin before a part."""
+    left = part.size * (part.number - 1) // part.parts - 1
+    if left < 0:
+        return 0
+    lines = 1
+    with opened(part.path) as file:
+        while left and (piece := file.read(min(PIECE, left))):
+            lines, left = lines + piece.count(b"\n"), left - len(piece)
+    return lines
+
+
+def judged(client, words, parts):
+    """Each part with its answer to come, in order; under way are no more than two for each thread of the workers."""
     waiting = collections.deque()
-    for block in blocks:
-        # not pure: in the next run the same block may have other rows
-        waiting.append((block, client.submit(answer_of, name, *block, pure=False)))
+    for part in parts:
+        # not pure: in the next run the same part may have other rows
+        waiting.append((part, client.submit(answer_of_part, words, *part, pure=False)))
         if len(waiting) >= 2 * max(1, sum(client.nthreads().values())):
             yield waiting.popleft()
     yield from waiting
 
 
-def settle(block, future):
+def settle(part, future):
     try:
-        return future.result()
+        return Answer(*future.result())
     except OSError as fault:
-        raise Stop(f"read {block.path}: {fault}", 5) from fault
+        raise Stop(f"read {part.path}: {fault}", 5) from fault
     except KilledWorker as fault:
-        raise Stop(f"{block.path}: bytes {block.start}..{block.stop}: each worker died that judged them", 5) from fault
+        lost = f"each worker died that judged part {part.number}/{part.parts}"
+        raise Stop(f"{part.path}: {lost}", 5) from fault
+
+
+def stop_of(part, reported, status):
+    """What ends the run at a part: a row at fault by its line in the file, or as the program reports it."""
+    line = reported.removeprefix(f"part {part.number}/{part.parts}: ")
+    if status == 4:
+        _, number, fault = line.split(" ", 2)
+        line = f"row {lines_before(part) + int(number)} {fault}"
+    if status == 5:
+        return Stop(f"read {part.path}", status)
+    return Stop(line if status == 6 else f"{part.path}: {line}", status)
 
 
 def write_kept(answers, out):
-    """Writes what is kept, up to the first fault, whose line is counted from the start of its file."""
-    path, before = None, 0
-    for block, future in answers:
-        before = before if block.path == path else 0
-        path = block.path
-        kept, lines, fault = settle(block, future)
+    """Writes what is kept, up to the first fault."""
+    for part, future in answers:
+        kept, reported, status = settle(part, future)
         try:
             out.write(kept)
             out.flush()
         except OSError as failed:
             raise Stop("write", 5) from failed
-        if fault:
-            raise Stop(f"{path}: row {before + lines} {fault}", 4)
-        before += lines
+        if status:
+            raise stop_of(part, reported, status)
 
 
 def run(words, out):
-    with opened(words.schema) as file:
-        document = file.read()
+    given = [f"--schema={os.path.abspath(words.schema)}", f"--type={words.type}", f"--filter={words.filter}"]
+    given += [] if words.now is None else [f"--now={words.now}"]
     # what is refused is reported before a worker is asked
-    with odfilter.Schema(document) as schema, schema.type(words.type) as of_type, of_type.check(words.filter) as by:
-        by.judge(words.now).close()
-        if by.needs_moment and words.now is None:
-            raise odfilter.MomentNeeded()
+    _, reported, status = answer_of(given, os.devnull)
+    if status:
+        raise Stop(reported, status)
     files = list(files_of(words.rows))
-    filtering = Filtering(document, words.type, words.filter, words.now)
     with Client(words.scheduler, set_as_default=False) as client:
         client.wait_for_workers(1, timeout=WAIT)
-        blocks = (block for file in files for block in blocks_of(file, words.block))
-        try:
-            client.register_worker_plugin(filtering)
-            write_kept(judged(client, filtering.name, blocks), out)
-        finally:
-            client.unregister_worker_plugin(filtering.name)
+        parts = (part for file in files for part in parts_of(file, words.block))
+        write_kept(judged(client, given, parts), out)
 
 
 def words_of(line):
@@ -202,11 +174,6 @@ def words_of(line):
     return words
 
 
-# the status of each kind of error; of any other it is 5
-STATUSES = {1: odfilter.Refused, 2: (odfilter.NotAMoment, odfilter.MomentNeeded, odfilter.NotUtf8)}
-STATUSES.update({3: (odfilter.SchemaFault, odfilter.UnknownType), 6: MemoryError})
-
-
 def main():
     words = words_of(sys.argv[1:])
     logging.disable()  # what dask says by itself, as of a worker that dies
@@ -216,10 +183,8 @@ def main():
     except Stop as stop:
         line, status = stop, stop.status
     except Exception as fault:  # pylint: disable=broad-except
-        status = next((status for status, kinds in STATUSES.items() if isinstance(fault, kinds)), 5)
-        is_own = isinstance(fault, odfilter.Error)
-        line = fault.program_line or fault if is_own else f"{type(fault).__name__}: {fault}"
-    print("memory" if status == 6 else line, file=sys.stderr)
+        line, status = f"{type(fault).__name__}: {fault}", 5
+    print(line, file=sys.stderr)
     return status
 
 

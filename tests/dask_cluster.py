@@ -4,7 +4,7 @@ import os
 import subprocess
 import time
 
-from built_library import MODULE, TOP
+from built_program import PROGRAM, TOP
 
 PYTHON = "/usr/bin/python3"  # Debian's, which has dask
 LIMIT = 300  # seconds that only a hang takes
@@ -13,10 +13,10 @@ LIMIT = 300  # seconds that only a hang takes
 class Cluster:
     """A scheduler and so many workers; what they say stands in files of the folder, which nothing else uses."""
 
-    def __init__(self, room, workers, threads=1):
+    def __init__(self, room, workers, threads=1, program=PROGRAM):
         self.room, self.threads, self.workers = room, threads, []
         os.makedirs(f"{room}/config")
-        self.env = {**os.environ, "PYTHONPATH": MODULE, "PYTHONDONTWRITEBYTECODE": "1", "DASK_CONFIG": f"{room}/config"}
+        self.env = {**os.environ, "ODFILTER": program, "PYTHONDONTWRITEBYTECODE": "1", "DASK_CONFIG": f"{room}/config"}
         self.scheduler_file = f"{room}/scheduler.json"
         self.scheduler = self.started("scheduler", "dask_scheduler", "--port", "0")
         try:
