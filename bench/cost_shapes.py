@@ -63,6 +63,10 @@ def shapes():
 
 
 def long_bodies():
-    """The same, of bodies that count 1 and take long."""
+    """The same, of bodies that take long and count 1: of each a bound divided by the filter's nodes bounds the time."""
     body = " or ".join(["a eq b"] * 1_000)
     yield "a body of 1,000 comparisons", f"V/any(a:W/any(b:{body}))", NUMBERS_ALONE
+    body, alike = " or ".join(["contains(b,'aba')"] * 580), ["a" * 1_023] * 900
+    yield "a body of 580 searches of texts below a KiB", f"Tags/any(a:Tags/any(b:{body}))", row(Tags=alike)
+    body = " or ".join(["trim(b) eq a"] * 580)
+    yield "a body of 580 texts of spaces, trimmed", f"Tags/any(a:Tags/any(b:{body}))", row(Tags=[" " * 1_023] * 900)

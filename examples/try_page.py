@@ -19,7 +19,7 @@ from try_page_data import START
 
 BODY_LIMIT = 1 << 24  # bytes of one question
 LINE_LIMIT = 1 << 20  # bytes of a row, as `odfilter filter` has it
-BOUND = 1_000_000  # what the filter may cost on a row
+BOUND = 1_000_000  # what the filter may cost on a row, times its nodes, so that this bounds the time
 SECONDS = 5  # in which the rows of one question are judged; those that are left then have no verdict
 HOSTS = ("127.0.0.1", "localhost")
 POLICY = "default-src 'none'; script-src 'nonce-{0}'; style-src 'nonce-{0}'; connect-src 'self'; img-src data:; "
@@ -76,7 +76,7 @@ def verdict_of(judge, line, ends):
     try:
         return {True: "true", False: "false", None: "null"}[judge.verdict(line)]
     except odfilter.TooCostly:
-        return {"fault": "TooCostly", "path": "", "sentence": f"The filter costs more than {BOUND:,} on this row."}
+        return {"fault": "TooCostly", "path": "", "sentence": "On this row the filter costs more than the page allows."}
     except odfilter.RowFault as fault:
         return {"fault": fault.name, "path": fault.path, "sentence": str(fault)}
 
@@ -84,7 +84,8 @@ def verdict_of(judge, line, ends):
 def judged(accepted, asked):
     """Of each line with a row its number, from 0, and its verdict; nothing where the moment is at fault."""
     try:
-        judge, ends = accepted.judge(asked["now"] if accepted.needs_moment else None, BOUND), time.monotonic() + SECONDS
+        judge = accepted.judge(asked["now"] if accepted.needs_moment else None, BOUND // accepted.node_count)
+        ends = time.monotonic() + SECONDS
         lines = enumerate(asked["rows"].encode("utf-8", "surrogatepass").split(b"\n"))
         return {"rows": [[number, verdict_of(judge, line, ends)] for number, line in lines if line.strip(b" \t\r")]}
     except (odfilter.NotAMoment, odfilter.NotUtf8) as fault:

@@ -31,8 +31,7 @@
  * BUFFERS, each an odfilter_buffer, are the caller's: a call writes a text into one, without a NUL after it. A text is
  * written whole or not at all: where it has more bytes than the buffer, the status is ODFILTER_TOO_SMALL, `length` of
  * the answer is how many are needed, and the buffer is unchanged. A buffer of length 0 asks for the length, at any
- * address; NULL is one where a text is all that the call writes, and not of odfilter_read_schema, odfilter_check_url and
- * odfilter_filter_lines. NULL with another length is ODFILTER_NULL.
+ * address, NULL too. NULL with another length is ODFILTER_NULL.
  *
  * HANDLES are made by calls that take an `odfilter_handle **`: where they return ODFILTER_OK it points to the new
  * handle, and else, but for ODFILTER_NULL, to NULL. Initialise the variable to NULL, and free a handle in it before the
@@ -456,8 +455,8 @@ uint32_t odfilter_fault_name(uint32_t status, uint32_t fault, odfilter_buffer te
 /* Writes a sentence for people about a fault: `status` and `fault` are what a call returned and the answer that it
  * wrote, and `text` is what the fault is about: the filter's text (of odfilter_check_url, as that wrote it), the query,
  * the path of a row's fault as odfilter_path writes it, the names of a schema's fault as odfilter_read_schema writes
- * them, the name of a type that is unknown, or the text that is no moment. `type` is the type that the filter was
- * checked for, which the sentence names; it may be NULL. The sentence is in English and may change from version to
+ * them, the name of a type that is unknown, or the text that is no moment; the sentences about other faults need none.
+ * `type` is the type that the filter was checked for, which the sentence names; it may be NULL. The sentence is in English and may change from version to
  * version; programs go by `status` and `fault`.
  *
  * ODFILTER_OK: `length` bytes have been written. ODFILTER_TOO_SMALL: `length` are needed. ODFILTER_UNKNOWN_NUMBER:

@@ -22,28 +22,25 @@ namespace Odfilter
         /// empty where there is none.</summary>
         public string Json { get; }
 
-        /// <summary>The error of a status that says everything.</summary>
-        internal static Exception Of(Status status)
+        /// <summary>The error of a status that says everything but what it is about.</summary>
+        internal static Exception Of(Status status, string about = "")
         {
-            switch (status)
+            if (status == Status.Memory)
             {
-                case Status.NotUtf8:
-                    return new ODataException("NotUtf8", "The text is not UTF-8.");
-                case Status.Memory:
-                    return new OutOfMemoryException();
-                case Status.MomentNeeded:
-                    return new ODataException("MomentNeeded", "The filter calls now(), and the judge has no moment.");
-                case Status.NotAMoment:
-                    return new ODataException("NotAMoment", "The text is not a moment.");
-                case Status.Unsayable:
-                    return new ODataException("Nul", "A text has the character U+0000, which no engine takes.");
-                case Status.TooDeep:
-                    return new ODataException("TooDeep", "The conditions nest too deeply for the engine.");
-                case Status.UnknownColumn:
-                    return new ODataException("UnknownColumn", "A column is named for no property of the type.");
-                default:
-                    return new InvalidOperationException("odfilter: status " + (uint)status);
+                return new OutOfMemoryException();
             }
+            if (status == Status.NotUtf8)
+            {
+                return new ODataException("NotUtf8", "The text is not UTF-8.");
+            }
+            if (Numbers.NameOf(status, 0) == null)
+            {
+                return new InvalidOperationException("odfilter: status " + (uint)status);
+            }
+            var text = Text.Utf8(about);
+            var fault = default(Answer);
+            return new ODataException(Text.CodeOf(status, fault), Text.MessageOf(null, status, text, fault),
+                Text.JsonOf(null, status, text, fault));
         }
     }
 
@@ -184,7 +181,8 @@ namespace Odfilter
     public sealed class RowException : ODataException
     {
         internal RowException(Status status, Answer answer, byte[] path, ulong line, byte[] kept)
-            : base(Text.CodeOf(status, answer), Sentence(status, answer, path), JsonOf(status, answer, path))
+            : base(Text.CodeOf(status, answer), Text.MessageOf(null, status, path, answer),
+                JsonOf(status, answer, path))
         {
             Path = Text.Of(path);
             Line = line;
@@ -198,17 +196,11 @@ namespace Odfilter
 
         public byte[] Kept { get; }
 
-        private static string Sentence(Status status, Answer answer, byte[] path)
-        {
-            return status == Status.TooCostly ? "The filter costs more on the row than the judge's bound."
-                : Text.MessageOf(null, status, path, answer);
-        }
-
         /// <summary>Without the line, which may be counted from elsewhere.</summary>
         private static string JsonOf(Status status, Answer answer, byte[] path)
         {
             answer.Number = 0;
-            return status == Status.TooCostly ? "" : Text.JsonOf(null, status, path, answer);
+            return Text.JsonOf(null, status, path, answer);
         }
     }
 }

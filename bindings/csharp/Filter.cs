@@ -108,7 +108,7 @@ namespace Odfilter
         {
             if (now != null && now.Contains("\n"))
             {
-                throw ODataException.Of(Status.NotAMoment);
+                throw ODataException.Of(Status.NotAMoment, now);
             }
             var lines = document != null ? new[] { document } : ColumnLines(columns).ToArray();
             var how = Odfilter.Text.Utf8((now ?? "") + "\n" + string.Join("\n", lines));
@@ -121,7 +121,7 @@ namespace Odfilter
                 how, given => Native.odfilter_new_sql(filter, form, given, out made, out answer));
             if (status != Status.Ok)
             {
-                throw ODataException.Of(status);
+                throw ODataException.Of(status, now ?? "");
             }
             using (made)
             {

@@ -42,7 +42,7 @@ namespace Odfilter
             }
             if (status != Status.Ok)
             {
-                throw ODataException.Of(status);
+                throw ODataException.Of(status, now);
             }
         }
 

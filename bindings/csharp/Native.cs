@@ -140,7 +140,7 @@ namespace Odfilter
                 case 23u << 8 | 2u: return "DivideByZero";
                 case 24u << 8 | 0u: return "LineTooLong";
                 case 25u << 8 | 0u: return "TooCostly";
-                case 26u << 8 | 0u: return "Unsayable";
+                case 26u << 8 | 0u: return "Nul";
                 case 27u << 8 | 0u: return "TooDeep";
                 case 28u << 8 | 0u: return "UnknownColumn";
                 default: return null;

@@ -8,33 +8,44 @@ import (
 	"unicode/utf8"
 )
 
-// What a call reports by itself: compare with errors.Is.
+// What a call reports by itself: compare with errors.Is. Their text is the library's sentence.
 var (
-	ErrNoFilter      = errors.New("odfilter: the query has no filter")
-	ErrNotUTF8       = errors.New("odfilter: the text is not UTF-8")
-	ErrMomentNeeded  = errors.New("odfilter: the filter calls now(), and the judge has no moment")
-	ErrNotAMoment    = errors.New("odfilter: the text is not a moment")
-	ErrTooCostly     = errors.New("odfilter: the filter costs more on the row than the judge's bound")
-	ErrUnknownColumn = errors.New("odfilter: a column is named for no property of the type")
-	ErrClosed        = errors.New("odfilter: already closed")
-	ErrOutOfMemory   = errors.New("odfilter: out of memory")
+	ErrNoFilter      error = plainError{why: statusNoFilter}
+	ErrMomentNeeded  error = plainError{why: statusMomentNeeded}
+	ErrNotAMoment    error = plainError{why: statusNotAMoment}
+	ErrTooCostly     error = plainError{why: statusTooCostly}
+	ErrUnknownColumn error = plainError{why: statusUnknownColumn}
+	ErrNotUTF8             = errors.New("odfilter: the text is not UTF-8")
+	ErrClosed              = errors.New("odfilter: already closed")
+	ErrOutOfMemory         = errors.New("odfilter: out of memory")
 )
 
-var plainErrors = map[status]error{
-	statusNoFilter:      ErrNoFilter,
-	statusNotUTF8:       ErrNotUTF8,
-	statusMomentNeeded:  ErrMomentNeeded,
-	statusNotAMoment:    ErrNotAMoment,
-	statusUnknownColumn: ErrUnknownColumn,
-	statusMemory:        ErrOutOfMemory,
-	statusUnsayable:     &UnsayableError{Code: "Nul"},
-	statusTooDeep:       &UnsayableError{Code: "TooDeep"},
+// A plainError is a status that says everything but what it is about.
+type plainError struct {
+	why   status
+	about string
 }
 
-// errorOf returns the error of a status that says everything.
-func errorOf(s status) error {
-	if err := plainErrors[s]; err != nil {
-		return err
+func (e plainError) Error() string { return messageOf(nil, e.why, []byte(e.about), new(answer)) }
+
+// Is tells errors.Is that it does not matter what the error is about.
+func (e plainError) Is(other error) bool {
+	plain, isPlain := other.(plainError)
+	return isPlain && plain.why == e.why
+}
+
+// errorOf returns the error of a status that says everything but what it is about.
+func errorOf(s status, about string) error {
+	name, isKnown := faultNames[s][0]
+	switch {
+	case s == statusNotUTF8:
+		return ErrNotUTF8
+	case s == statusMemory:
+		return ErrOutOfMemory
+	case s == statusUnsayable || s == statusTooDeep:
+		return &UnsayableError{Code: name, Message: messageOf(nil, s, nil, new(answer))}
+	case isKnown:
+		return plainError{s, about}
 	}
 	return fmt.Errorf("odfilter: status %d", s)
 }
@@ -78,8 +89,8 @@ type SchemaError struct {
 type UnknownTypeError struct{ Name, Message, JSON string }
 
 // A RowError says why a row has no verdict. Path leads from the row to the value at fault, as Parts/0/Qty; it may be
-// empty. Line counts lines from 1, and Kept has the lines that were kept before it. Of a row that costs more than the
-// judge's bound Code is "TooCostly", errors.Is finds ErrTooCostly, and JSON is empty; else JSON has no line.
+// empty. Line counts lines from 1, and Kept has the lines that were kept before it; JSON has no line. Of a row that
+// costs more than the judge's bound Code is "TooCostly", and errors.Is finds ErrTooCostly.
 type RowError struct {
 	Code, Path, Message, JSON string
 	Line                      uint64
@@ -88,27 +99,21 @@ type RowError struct {
 
 // An UnsayableError says why a filter has no conditions of SQL. Code is "Nul" where a literal or a column's name holds
 // U+0000, and "TooDeep" where the filter or its conditions nest too deeply.
-type UnsayableError struct{ Code string }
+type UnsayableError struct{ Code, Message string }
 
 func (e *RefusedError) Error() string     { return e.Message }
 func (e *QueryError) Error() string       { return e.Message }
 func (e *SchemaError) Error() string      { return e.Message }
 func (e *UnknownTypeError) Error() string { return e.Message }
 func (e *RowError) Error() string         { return e.Message }
+func (e *UnsayableError) Error() string   { return e.Message }
 
 // Unwrap returns ErrTooCostly for a row that costs more than the judge's bound.
 func (e *RowError) Unwrap() error {
-	if e.Code == "TooCostly" {
+	if e.Code == faultNames[statusTooCostly][0] {
 		return ErrTooCostly
 	}
 	return nil
-}
-
-func (e *UnsayableError) Error() string {
-	if e.Code == "TooDeep" {
-		return "odfilter: the conditions nest too deeply"
-	}
-	return "odfilter: a text has the character U+0000"
 }
 
 // Pointed returns the filter's text, and below it a caret under each character of the span, one at least. What is not

@@ -56,7 +56,7 @@ func (f *Filter) numberBy(call func(handle, *answer) status) (uint64, error) {
 	defer of.release()
 	a := new(answer)
 	if s := call(of.at, a); s != statusOK {
-		return 0, errorOf(s)
+		return 0, errorOf(s, "")
 	}
 	return uint64(a.number), nil
 }
@@ -112,7 +112,7 @@ func (f *Filter) SQL(dialect Dialect, options SQLOptions) (*Conditions, error) {
 	defer of.release()
 	var made handle
 	if s := newSQL(of.at, form, how, &made, new(answer)); s != statusOK {
-		return nil, errorOf(s)
+		return nil, errorOf(s, options.Now)
 	}
 	defer free(made)
 	return readConditions(made)
@@ -121,7 +121,7 @@ func (f *Filter) SQL(dialect Dialect, options SQLOptions) (*Conditions, error) {
 // lines returns the options as odfilter_sql takes them.
 func (o SQLOptions) lines() ([]byte, error) {
 	if strings.Contains(o.Now, "\n") {
-		return nil, ErrNotAMoment
+		return nil, errorOf(statusNotAMoment, o.Now)
 	}
 	if o.Document != "" {
 		return []byte(o.Now + "\n" + o.Document), nil

@@ -77,7 +77,7 @@ func written(call func(text []byte, a *answer) status) ([]byte, error) {
 		case statusTooSmall:
 			text = make([]byte, a.length)
 		default:
-			return nil, errorOf(s)
+			return nil, errorOf(s, "")
 		}
 	}
 }

@@ -44,7 +44,7 @@ type JudgeOption func(judge handle) error
 func At(now string) JudgeOption {
 	return func(judge handle) error {
 		if s := setMoment(judge, []byte(now)); s != statusOK {
-			return errorOf(s)
+			return errorOf(s, now)
 		}
 		return nil
 	}
@@ -73,7 +73,7 @@ func (f *Filter) NewJudge(options ...JudgeOption) (*Judge, error) {
 	var made handle
 	if s := newJudgeOf(of.at, &made); s != statusOK {
 		of.release()
-		return nil, errorOf(s)
+		return nil, errorOf(s, "")
 	}
 	judge := &Judge{owner: own(made, of), answer: new(answer)}
 	for _, option := range options {
@@ -128,17 +128,13 @@ func (j *Judge) FilterLines(rows []byte) (Kept, error) {
 // rowError returns why a row has no verdict; of lines, kept has those that are kept before it.
 func rowError(judge handle, s status, a *answer, kept []byte) error {
 	if s < statusJSONFault || s > statusTooCostly {
-		return errorOf(s)
+		return errorOf(s, "")
 	}
 	line := uint64(a.number)
 	if kept == nil {
 		line = 1
 	}
 	fault := &RowError{Code: codeOf(s, a), Line: line, Kept: kept}
-	if s == statusTooCostly {
-		fault.Message = ErrTooCostly.Error()
-		return fault
-	}
 	at, _ := written(func(text []byte, a *answer) status { return path(judge, text, a) })
 	fault.Path, fault.Message = string(at), messageOf(nil, s, at, a)
 	// Line may count from elsewhere, so the object has none

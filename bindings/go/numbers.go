@@ -78,7 +78,7 @@ var faultNames = map[status]map[uint32]string{
 	23: {1: "Overflow", 2: "DivideByZero"},
 	24: {0: "LineTooLong"},
 	25: {0: "TooCostly"},
-	26: {0: "Unsayable"},
+	26: {0: "Nul"},
 	27: {0: "TooDeep"},
 	28: {0: "UnknownColumn"},
 }

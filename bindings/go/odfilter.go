@@ -31,7 +31,7 @@ func ReadSchema(document []byte) (*Schema, error) {
 		case s == statusOK:
 			return &Schema{own(made, nil)}, nil
 		case s != statusSchemaFault:
-			return nil, errorOf(s)
+			return nil, errorOf(s, "")
 		case uint64(a.length) <= uint64(len(names)):
 			return nil, schemaError(names[:a.length], a)
 		}
@@ -77,7 +77,7 @@ func (s *Schema) Type(name string) (*Type, error) {
 		about, fault := []byte(name), new(answer)
 		return nil, &UnknownTypeError{name, messageOf(nil, found, about, fault), jsonOf(nil, found, about, fault)}
 	default:
-		return nil, errorOf(found)
+		return nil, errorOf(found, "")
 	}
 }
 
@@ -133,7 +133,7 @@ func (t *Type) filter(
 	case statusQueryFault:
 		return nil, &QueryError{codeOf(s, a), messageOf(nil, s, given, a), jsonOf(nil, s, given, a), uint64(a.number)}
 	default:
-		return nil, errorOf(s)
+		return nil, errorOf(s, "")
 	}
 }
 

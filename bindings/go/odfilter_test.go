@@ -145,7 +145,7 @@ func TestErrors(t *testing.T) {
 	checkObject(t, fault.JSON, "row", "WrongKind", fault.Message)
 	var unsayable *UnsayableError
 	_, err = must(of.Check("Name eq 'a\x00'")).SQL(SQLite, SQLOptions{})
-	if !errors.As(err, &unsayable) || unsayable.Code != "Nul" {
+	if !errors.As(err, &unsayable) || unsayable.Code != "Nul" || !strings.Contains(err.Error(), "U+0000") {
 		t.Errorf("%#v", err)
 	}
 	checkPlainErrors(t, of, active)
@@ -202,10 +202,19 @@ func checkPlainErrors(t *testing.T, of *Type, active *Filter) {
 		},
 	}
 	for wanted, call := range calls {
-		if err := call(); !errors.Is(err, wanted) {
+		if err := call(); !errors.Is(err, wanted) || err.Error() == "" || errors.Is(err, ErrClosed) {
 			t.Error(wanted, err)
 		}
 	}
+	if _, err := needs.NewJudge(At("soon")); errors.Is(err, ErrMomentNeeded) || !strings.Contains(err.Error(), `"soon"`) {
+		t.Error(err)
+	}
+	var costs *RowError
+	_, err := must(costly.NewJudge(Within(2))).Verdict(text)
+	if !errors.As(err, &costs) {
+		t.Fatal(err)
+	}
+	checkObject(t, costs.JSON, "too_costly", "TooCostly", costs.Message)
 	if _, err := of.CheckQuery("filter=%ED%A0%80"); err == nil {
 		t.Error("a query with a lone surrogate")
 	}

@@ -27,21 +27,14 @@ function bytes(given, what) {
   throw new TypeError(`${what} is a string or a Uint8Array, not ${typeof given}`);
 }
 
-const PLAIN = {
-  [STATUS.NOT_UTF8]: ['NotUtf8', 'the text is not UTF-8'],
-  [STATUS.MEMORY]: ['OutOfMemory', 'out of memory'],
-  [STATUS.MOMENT_NEEDED]: ['MomentNeeded', 'the filter calls now(), and the judge has no moment'],
-  [STATUS.NOT_A_MOMENT]: ['NotAMoment', 'the text is not a moment'],
-  [STATUS.TOO_COSTLY]: ['TooCostly', "the filter costs more on the row than the judge's bound"],
-  [STATUS.UNSAYABLE]: ['Nul', 'a text has the character U+0000, which no engine takes'],
-  [STATUS.TOO_DEEP]: ['TooDeep', 'the conditions nest too deeply for the engine'],
-  [STATUS.UNKNOWN_COLUMN]: ['UnknownColumn', 'a column is named for no property of the type'],
-};
-
-/** The error of a status that says everything. */
-function failed(status) {
-  const [code, message] = PLAIN[status] ?? [`Status${status}`, `odfilter: status ${status}`];
-  return new ODataError(message, { code });
+/** The error of a status that says everything but what it is about. */
+function failed(status, about = '') {
+  if (status === STATUS.NOT_UTF8) return new ODataError('the text is not UTF-8', { code: 'NotUtf8' });
+  if (status === STATUS.MEMORY) return new ODataError('out of memory', { code: 'OutOfMemory' });
+  const isPlain = FAULTS[status]?.[0] !== undefined;
+  if (!isPlain) return new ODataError(`odfilter: status ${status}`, { code: `Status${status}` });
+  const [message, more] = reported(null, status, utf8(about, 'a text'), newAnswer());
+  return new ODataError(message, more);
 }
 
 /** The bytes that a call writes into a buffer, which grows to the length that the call asks for. */
@@ -63,15 +56,13 @@ function codeOf(status, fault) {
   return FAULTS[status]?.[number] ?? written((text, answer) => native.faultName(status, number, text, answer));
 }
 
-/** The sentence about a fault of a text, the library's where it has one; `type` is the handle of the type, or null. */
+/** The library's sentence about a fault of a text; `type` is the handle of the type, or null. */
 function messageOf(type, status, about, fault) {
-  if (status === STATUS.TOO_COSTLY) return PLAIN[status][1];
   return written((text, answer) => native.faultText(type, status, about, text, fault, answer));
 }
 
-/** The object of a fault of a text, as the program prints it by `--format json`; undefined where there is none. */
+/** The object of a fault of a text, as the program prints it by `--format json`. */
 function objectOf(type, status, about, fault) {
-  if (status === STATUS.TOO_COSTLY) return undefined;
   return JSON.parse(written((text, answer) => native.faultJson(type, status, about, text, fault, answer)));
 }
 

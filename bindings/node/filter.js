@@ -70,10 +70,10 @@ class Filter extends Held {
     const form = FORMS[dialect][document === undefined ? 0 : 1];
     const lines = document === undefined ? columnLines(columns) : [document];
     const moment = now === undefined ? '' : momentOf(now);
-    if (moment.includes('\n')) throw failed(STATUS.NOT_A_MOMENT);
+    if (moment.includes('\n')) throw failed(STATUS.NOT_A_MOMENT, moment);
     const how = utf8([moment, ...lines].join('\n'), 'the name of a column');
     const made = native.newSql(this.handle, form, how);
-    if (typeof made === 'number') throw failed(made);
+    if (typeof made === 'number') throw failed(made, moment);
     try {
       const [outcome, keep, fault] = Object.values(STATEMENT).map((which) => statement(made, which));
       return fault === undefined ? { outcome, keep } : { outcome, keep, fault };

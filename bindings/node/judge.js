@@ -22,7 +22,7 @@ class Judge extends Held {
 
   setMoment(now) {
     const status = native.setMoment(this.handle, utf8(now, 'a moment'));
-    if (status !== STATUS.OK) throw failed(status);
+    if (status !== STATUS.OK) throw failed(status, now);
   }
 
   setBound(bound) {

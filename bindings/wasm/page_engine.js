@@ -1,7 +1,7 @@
 'use strict';
 /* What answers in a page without a server: a worker that is sent the bytes of odfilter.wasm, and then questions as
  * examples/try_page.html asks them, each answered as examples/try_page.py does. Stands after calls.js. */
-const BOUND = 1000000; // what the filter may cost on a row
+const BOUND = 1000000; // what the filter may cost on a row, times its nodes, so that this bounds the time
 const SECONDS = 5; // in which the rows of one question are judged; those that are left then have no verdict
 const LINE_LIMIT = 1 << 20; // bytes of a row
 const DECODER = new TextDecoder('utf-8', { ignoreBOM: true });
@@ -117,7 +117,8 @@ class Engine {
     const judge = this.calls.newJudgeOf(filter), answer = this.calls.newAnswer();
     if (typeof judge === 'number') throw new Error(this.nameOfStatus(judge));
     try {
-      this.calls.setBound(judge, BOUND);
+      this.calls.nodeCount(filter, answer);
+      this.calls.setBound(judge, Math.floor(BOUND / answer.number));
       this.calls.needsMoment(filter, answer);
       if (answer.number === 1) {
         const status = this.calls.setMoment(judge, bytes.now);
@@ -148,8 +149,7 @@ class Engine {
     const answer = this.calls.newAnswer(), status = this.calls.judgeNext(judge, row, answer);
     if (status === this.STATUS.OK) return VERDICTS[answer.verdict];
     if (status === this.STATUS.TOO_COSTLY) {
-      const sentence = `The filter costs more than ${BOUND.toLocaleString('en')} on this row.`;
-      return { fault: 'TooCostly', path: '', sentence };
+      return { fault: 'TooCostly', path: '', sentence: 'On this row the filter costs more than the page allows.' };
     }
     const path = status === this.STATUS.ROW_FAULT && this.written((text, said) => this.calls.path(judge, text, said));
     const sentence = this.sentenceOf(type, status, utf8(path || ''), answer);

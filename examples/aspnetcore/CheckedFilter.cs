@@ -1,5 +1,6 @@
 using System;
 using System.Text;
+using System.Text.Json.Nodes;
 using System.Threading.Tasks;
 using Microsoft.AspNetCore.Http;
 using Odfilter;
@@ -26,25 +27,20 @@ public sealed class CheckedFilter : IEndpointFilter
         var request = context.HttpContext.Request;
         var given = Encoding.UTF8.GetBytes((request.QueryString.Value ?? "").TrimStart('?'));
         Filter filter;
-        FilterRefusedException refusal;
         try
         {
-            if (!entities.TryCheckUrl(given, out filter, out refusal))
-            {
-                var span = new[] { refusal.Bytes.Start, refusal.Bytes.Stop };
-                return Refused(refusal.Code, refusal.Message, new { span, pointer = refusal.Pointed });
-            }
+            filter = entities.CheckUrl(given);
         }
-        catch (QueryRefusedException refused)
+        catch (ODataException refused) when (refused is FilterRefusedException || refused is QueryRefusedException)
         {
-            return Refused(refused.Code, refused.Message, null);
-        }
-        if (filter == null)
-        {
-            return await next(context);
+            return Refused(refused.Code, refused.Message, JsonNode.Parse(refused.Json));
         }
         using (filter)
         {
+            if (filter == null)
+            {
+                return await next(context);
+            }
             if (filter.NodeCount > mostNodes)
             {
                 return Refused("TooComplex", "The filter has too many nodes.", null);
@@ -58,7 +54,7 @@ public sealed class CheckedFilter : IEndpointFilter
         }
     }
 
-    private static object Refused(string code, string message, object innererror)
+    private static object Refused(string code, string message, JsonNode innererror)
     {
         return Results.Json(new { error = new { code, message, target = "$filter", innererror } }, statusCode: 400);
     }

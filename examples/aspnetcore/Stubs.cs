@@ -1,9 +1,28 @@
 // What CheckedFilter.cs takes of ASP.NET Core, which Debian has not, in a form that compiles and answers: for the test
 // of the example, and to be left out of a service. The server beside it stands in for Kestrel.
-using System.Collections;
 using System.Collections.Generic;
 using System.Linq;
+using System.Text.Json.Nodes;
 using System.Threading.Tasks;
+
+namespace System.Text.Json.Nodes
+{
+    /// <summary>JSON as it was written.</summary>
+    public sealed class JsonNode
+    {
+        private string text;
+
+        public static JsonNode Parse(string json)
+        {
+            return new JsonNode { text = json };
+        }
+
+        public override string ToString()
+        {
+            return text;
+        }
+    }
+}
 
 namespace Microsoft.AspNetCore.Http
 {
@@ -61,21 +80,19 @@ namespace Microsoft.AspNetCore.Http
         }
     }
 
-    /// <summary>JSON of objects without a name, arrays of numbers, and strings.</summary>
+    /// <summary>JSON of objects without a name, and strings.</summary>
     public static class Json
     {
         public static string Of(object value)
         {
             var text = value as string;
-            var all = value as IEnumerable;
-            if (value == null || value is int)
+            if (value == null || value is JsonNode)
             {
                 return value == null ? "null" : value.ToString();
             }
-            if (text != null || all != null)
+            if (text != null)
             {
-                return text != null ? "\"" + string.Concat(text.Select(Escaped)) + "\""
-                    : "[" + string.Join(",", all.Cast<object>().Select(Of)) + "]";
+                return "\"" + string.Concat(text.Select(Escaped)) + "\"";
             }
             var members = value.GetType().GetProperties();
             return "{" + string.Join(",", members.Select(it => Of(it.Name) + ":" + Of(it.GetValue(value)))) + "}";

@@ -27,21 +27,12 @@ function checked(entities, { mostNodes = 100 } = {}) {
     try {
       filter = mark < 0 ? undefined : entities.checkUrl(Buffer.from(request.url.slice(mark + 1), 'latin1'));
     } catch (error) {
-      if (error instanceof FilterRefused) {
-        refuse(response, error.code, error.message, { span: error.byteSpan, pointer: error.pointed });
-      } else if (error instanceof QueryRefused) {
-        refuse(response, error.code, error.message);
-      } else {
-        next(error);
-      }
-      return;
+      const isRefused = error instanceof FilterRefused || error instanceof QueryRefused;
+      return isRefused ? refuse(response, error.code, error.message, error.object) : next(error);
     }
     if (filter !== undefined) {
       response.on('close', () => filter.dispose());
-      if (filter.nodeCount > mostNodes) {
-        refuse(response, 'TooComplex', 'The filter has too many nodes.');
-        return;
-      }
+      if (filter.nodeCount > mostNodes) return refuse(response, 'TooComplex', 'The filter has too many nodes.');
       request.odataFilter = filter;
       request.url = withValue(request.url, filter, filter.canonical);
       // Express 4 has read the query before; its reader would take the client's own `+` for a space
@@ -49,7 +40,7 @@ function checked(entities, { mostNodes = 100 } = {}) {
         request.query = request.app.get('query parser fn')(request.url.slice(mark + 1));
       }
     }
-    next();
+    return next();
   };
 }
 

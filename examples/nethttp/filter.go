@@ -31,10 +31,9 @@ func checked(entities *odfilter.Type, mostNodes uint64, next http.Handler) http.
 		case errors.Is(err, odfilter.ErrNoFilter):
 			next.ServeHTTP(w, r)
 		case errors.As(err, &refused):
-			span := []int{refused.Span.Start, refused.Span.Stop}
-			refuse(w, refused.Code, err.Error(), map[string]any{"span": span, "pointer": refused.Pointed()})
+			refuse(w, refused.Code, refused.Message, json.RawMessage(refused.JSON))
 		case errors.As(err, &query):
-			refuse(w, query.Code, err.Error(), nil)
+			refuse(w, query.Code, query.Message, json.RawMessage(query.JSON))
 		case err != nil:
 			http.Error(w, err.Error(), http.StatusInternalServerError)
 		default:

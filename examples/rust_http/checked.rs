@@ -28,31 +28,21 @@ pub fn checked(
 
 fn refusal(error: &Error) -> Refusal {
     match error {
-        Error::Refused(it) => {
-            let pointer = quoted(&it.pointed());
-            let inner =
-                format!(r#"{{"span":[{},{}],"pointer":{pointer}}}"#, it.span.start, it.span.end);
-            refused(&it.code, &it.message, &inner)
-        }
-        Error::Query(it) => refused(&it.code, &it.message, "null"),
+        Error::Refused(it) => refused(&it.code, &it.message, &it.json),
+        Error::Query(it) => refused(&it.code, &it.message, &it.json),
         other => Refusal { status: 500, body: other.to_string() },
     }
 }
 
 fn refused(code: &str, message: &str, inner: &str) -> Refusal {
-    let (code, message) = (quoted(code), quoted(message));
-    let rest = format!(r#""message":{message},"target":"$filter","innererror":{inner}"#);
-    Refusal { status: 400, body: format!(r#"{{"error":{{"code":{code},{rest}}}}}"#) }
-}
-
-/// A text as JSON.
-fn quoted(text: &str) -> String {
-    let escaped = text.chars().map(|it| match it {
+    let escaped = message.chars().map(|it| match it {
         '"' | '\\' => format!("\\{it}"),
         it if it < ' ' => format!("\\u{:04x}", it as u32),
         it => it.to_string(),
     });
-    format!("\"{}\"", escaped.collect::<String>())
+    let said = format!(r#""code":"{code}","message":"{}""#, escaped.collect::<String>());
+    let rest = format!(r#""target":"$filter","innererror":{inner}"#);
+    Refusal { status: 400, body: format!(r#"{{"error":{{{said},{rest}}}}}"#) }
 }
 
 /// A text as the value of an option.

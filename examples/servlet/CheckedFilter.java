@@ -1,15 +1,16 @@
-import jakarta.servlet.Filter;
 import jakarta.servlet.FilterChain;
 import jakarta.servlet.ServletException;
-import jakarta.servlet.ServletRequest;
-import jakarta.servlet.ServletResponse;
+import jakarta.servlet.http.HttpFilter;
 import jakarta.servlet.http.HttpServletRequest;
 import jakarta.servlet.http.HttpServletRequestWrapper;
 import jakarta.servlet.http.HttpServletResponse;
 import java.io.IOException;
 import java.net.URLEncoder;
 import java.nio.charset.StandardCharsets;
+import java.util.Objects;
+import java.util.Optional;
 import org.odfilter.EntityType;
+import org.odfilter.Filter;
 import org.odfilter.FilterRefusedException;
 import org.odfilter.QueryRefusedException;
 
@@ -19,9 +20,10 @@ import org.odfilter.QueryRefusedException;
  * FILTER, until it has answered. It takes that or getQueryString: getParameter has the client's own text, and a space
  * for each of its plus signs.
  */
-final class CheckedFilter implements Filter {
+final class CheckedFilter extends HttpFilter {
     static final String FILTER = "odata.filter";
-    private final EntityType entities;
+    private static final long serialVersionUID = 1L;
+    private final transient EntityType entities;
     private final long mostNodes;
 
     CheckedFilter(EntityType entities, long mostNodes) {
@@ -30,64 +32,47 @@ final class CheckedFilter implements Filter {
     }
 
     @Override
-    public void doFilter(ServletRequest any, ServletResponse answer, FilterChain next)
+    protected void doFilter(HttpServletRequest request, HttpServletResponse response, FilterChain next)
             throws IOException, ServletException {
-        HttpServletRequest request = (HttpServletRequest) any;
-        HttpServletResponse response = (HttpServletResponse) answer;
-        String query = request.getQueryString() == null ? "" : request.getQueryString();
-        org.odfilter.Filter filter;
+        String query = Objects.requireNonNullElse(request.getQueryString(), "");
+        Optional<Filter> checked;
         try {
-            filter = entities.checkUrl(query.getBytes(StandardCharsets.ISO_8859_1)).orElse(null);
-        } catch (FilterRefusedException refused) {
-            String inner = "{\"span\":[" + refused.byteSpan().start() + "," + refused.byteSpan().stop()
-                    + "],\"pointer\":" + quoted(refused.pointed()) + "}";
-            refuse(response, refused.code(), refused.getMessage(), inner);
-            return;
-        } catch (QueryRefusedException refused) {
-            refuse(response, refused.code(), refused.getMessage(), "null");
+            checked = entities.checkUrl(query.getBytes(StandardCharsets.ISO_8859_1));
+        } catch (FilterRefusedException | QueryRefusedException refused) {
+            refuse(response, refused.code(), refused.getMessage(), refused.json());
             return;
         }
-        if (filter == null) {
-            next.doFilter(request, response);
-            return;
-        }
-        try (filter) {
-            pass(request, response, next, filter, query);
+        try (Filter filter = checked.orElse(null)) {
+            if (filter != null && filter.nodeCount() > mostNodes) {
+                refuse(response, "TooComplex", "The filter has too many nodes.", "null");
+                return;
+            }
+            request.setAttribute(FILTER, filter);
+            next.doFilter(filter == null ? request : withCanonical(request, filter, query), response);
         }
     }
 
-    private void pass(HttpServletRequest request, HttpServletResponse response, FilterChain next,
-            org.odfilter.Filter filter, String query) throws IOException, ServletException {
-        if (filter.nodeCount() > mostNodes) {
-            refuse(response, "TooComplex", "The filter has too many nodes.", "null");
-            return;
-        }
+    private static HttpServletRequest withCanonical(HttpServletRequest request, Filter filter, String query) {
         String text = URLEncoder.encode(filter.canonical(), StandardCharsets.UTF_8).replace("+", "%20");
-        String checked = query.substring(0, filter.value().start()) + text + query.substring(filter.value().stop());
-        request.setAttribute(FILTER, filter);
-        next.doFilter(new HttpServletRequestWrapper(request) {
+        String passed = query.substring(0, filter.value().start()) + text + query.substring(filter.value().stop());
+        return new HttpServletRequestWrapper(request) {
             @Override
             public String getQueryString() {
-                return checked;
+                return passed;
             }
-        }, response);
+        };
     }
 
     private static void refuse(HttpServletResponse response, String code, String message, String inner)
             throws IOException {
+        StringBuilder quoted = new StringBuilder();
+        for (char it : message.toCharArray()) {
+            quoted.append(it < ' ' || it == '"' || it == '\\' ? String.format("\\u%04x", (int) it) : it);
+        }
         response.setStatus(HttpServletResponse.SC_BAD_REQUEST);
         response.setContentType("application/json");
         response.setCharacterEncoding("UTF-8");
-        response.getWriter().write("{\"error\":{\"code\":" + quoted(code) + ",\"message\":" + quoted(message)
-                + ",\"target\":\"$filter\",\"innererror\":" + inner + "}}");
-    }
-
-    /** A text as JSON. */
-    private static String quoted(String text) {
-        StringBuilder json = new StringBuilder("\"");
-        for (char it : text.toCharArray()) {
-            json.append(it < ' ' || it == '"' || it == '\\' ? String.format("\\u%04x", (int) it) : it);
-        }
-        return json.append('"').toString();
+        response.getWriter().write("{\"error\":{\"code\":\"" + code + "\",\"message\":\"" + quoted
+                + "\",\"target\":\"$filter\",\"innererror\":" + inner + "}}");
     }
 }

@@ -48,7 +48,10 @@ static void nulls_that_make_handles(void)
     odfilter_handle **at = place();
     is_null("read_schema: no document of a length", odfilter_read_schema(no_bytes_of_length, room, at, fresh()), 1, at);
     at = place();
-    is_null("read_schema: no buffer", odfilter_read_schema(document, no_room, at, fresh()), 1, at);
+    is_null("read_schema: no buffer of a length", odfilter_read_schema(document, no_room_of_length, at, fresh()), 1, at);
+    at = place();
+    is_null("read_schema: neither a document of a length nor a buffer",
+            odfilter_read_schema(no_bytes_of_length, no_room, at, fresh()), 1, at);
     is_null("read_schema: no handle variable", odfilter_read_schema(document, room, NULL, fresh()), 1, NULL);
     at = place();
     is_null("read_schema: no answer", odfilter_read_schema(document, room, at, NULL), 0, at);
@@ -190,7 +193,11 @@ static void nulls_of_urls(void)
     is_null("check_url: no query of a length", odfilter_check_url(handles[TYPE], no_bytes_of_length, room, at, fresh()),
             1, at);
     at = place();
-    is_null("check_url: no buffer", odfilter_check_url(handles[TYPE], query, no_room, at, fresh()), 1, at);
+    is_null("check_url: no buffer of a length", odfilter_check_url(handles[TYPE], query, no_room_of_length, at, fresh()),
+            1, at);
+    at = place();
+    is_null("check_url: neither a query of a length nor a buffer",
+            odfilter_check_url(handles[TYPE], no_bytes_of_length, no_room, at, fresh()), 1, at);
     is_null("check_url: no handle variable", odfilter_check_url(handles[TYPE], query, room, NULL, fresh()), 1, NULL);
     at = place();
     is_null("check_url: no answer", odfilter_check_url(handles[TYPE], query, room, at, NULL), 0, at);
@@ -228,6 +235,8 @@ static void nulls_of_rows(void)
     is_null("filter_lines: no judge", odfilter_filter_lines(filter, NULL, row, kept, fresh()), 1, NULL);
     is_null("filter_lines: no rows", odfilter_filter_lines(filter, judge, no_bytes_of_length, kept, fresh()), 1, NULL);
     is_null("filter_lines: no buffer", odfilter_filter_lines(filter, judge, row, no_room_of_length, fresh()), 1, NULL);
+    is_null("filter_lines: neither rows of a length nor a buffer",
+            odfilter_filter_lines(filter, judge, no_bytes_of_length, no_room, fresh()), 1, NULL);
     is_null("filter_lines: no answer", odfilter_filter_lines(filter, judge, row, kept, NULL), 0, NULL);
     is_null("set_moment: no judge", odfilter_set_moment(NULL, row), 0, NULL);
     is_null("set_moment: no moment", odfilter_set_moment(judge, no_bytes_of_length), 0, NULL);
@@ -237,6 +246,41 @@ static void nulls_of_rows(void)
     odfilter_free(&own);
     drop(row);
     free(kept.at);
+}
+
+/* a call that reports more than a text does all else where there is no buffer */
+static void lengths_beside_others(void)
+{
+    static const char bad[] = "{\"$Version\":\"4.0\",\"Mini\":{\"Item\":{\"$Kind\":\"EntityType\",\"Size\":5}}}";
+    odfilter_bytes document = bytes_of(bad), query = bytes_of("$top=5&$filter=Act%69ve"), row = bytes_of(ROW);
+    odfilter_handle *made = NULL, *filter = handles[FILTER_KIND], *judge = handles[JUDGE];
+    odfilter_answer wanted;
+    uint32_t status = odfilter_read_schema(document, shut, &made, &wanted);
+    check("read_schema: two names", status == ODFILTER_SCHEMA_FAULT && wanted.length == 13 && wanted.first == 9);
+    asks_for_length("read_schema: no buffer", odfilter_read_schema(document, no_room, &made, fresh()), status, wanted);
+    check("read_schema: no schema", !made);
+    status = odfilter_read_schema(no_bytes, shut, &made, &wanted);
+    asks_for_length("read_schema: neither", odfilter_read_schema(no_bytes, no_room, &made, fresh()), status, wanted);
+    status = odfilter_check_url(handles[TYPE], query, shut, &made, &wanted);
+    check("check_url: a filter", status == ODFILTER_OK && wanted.length == 6 && made);
+    odfilter_free(&made);
+    asks_for_length("check_url: no buffer", odfilter_check_url(handles[TYPE], query, no_room, &made, fresh()), status,
+                    wanted);
+    check("check_url: a filter without a buffer", made != NULL);
+    odfilter_free(&made);
+    status = odfilter_check_url(handles[TYPE], no_bytes, shut, &made, &wanted);
+    asks_for_length("check_url: neither", odfilter_check_url(handles[TYPE], no_bytes, no_room, &made, fresh()), status,
+                    wanted);
+    status = odfilter_filter_lines(filter, judge, row, shut, &wanted);
+    check("filter_lines: a kept row", status == ODFILTER_TOO_SMALL && wanted.length == row.length + 1);
+    asks_for_length("filter_lines: no buffer", odfilter_filter_lines(filter, judge, row, no_room, fresh()), status,
+                    wanted);
+    status = odfilter_filter_lines(filter, judge, no_bytes, shut, &wanted);
+    asks_for_length("filter_lines: neither", odfilter_filter_lines(filter, judge, no_bytes, no_room, fresh()), status,
+                    wanted);
+    drop(document);
+    drop(query);
+    drop(row);
 }
 
 /* each call with a handle of each other kind */
@@ -379,6 +423,7 @@ int main(void)
     nulls_of_texts();
     nulls_of_urls();
     nulls_of_rows();
+    lengths_beside_others();
     other_kinds();
     empty_texts(empty);
     empty_texts(no_bytes);

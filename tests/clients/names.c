@@ -105,7 +105,7 @@ static const char *const lone_names[] = {
     [ODFILTER_JSON_FAULT] = "Json",
     [ODFILTER_LINE_TOO_LONG] = "LineTooLong",
     [ODFILTER_TOO_COSTLY] = "TooCostly",
-    [ODFILTER_UNSAYABLE] = "Unsayable",
+    [ODFILTER_UNSAYABLE] = "Nul",
     [ODFILTER_TOO_DEEP] = "TooDeep",
     [ODFILTER_UNKNOWN_COLUMN] = "UnknownColumn",
 };
@@ -159,12 +159,10 @@ static void said_at(fault_call *call, const odfilter_handle *type, uint32_t stat
     odfilter_buffer room = {at, sizeof at};
     odfilter_answer about = {0}, answer = unwritten(), none = {0}, wanted = {0};
     odfilter_bytes text = bytes_of("Foo eq 1");
-    int is_known = status < sizeof fault_names / sizeof *fault_names && fault < FAULTS && fault_names[status][fault];
+    int is_known = name_of_fault(status, fault) != NULL;
     uint32_t returned;
     about.fault = fault;
     about.stop = 3;
-    is_known |= !fault && (status == ODFILTER_JSON_FAULT || status == ODFILTER_LINE_TOO_LONG ||
-                           (status >= ODFILTER_UNKNOWN_TYPE && status <= ODFILTER_NOT_A_MOMENT));
     returned = call(type, status, text, room, &about, &answer);
     check("a sentence", returned == (is_known ? ODFILTER_OK : ODFILTER_UNKNOWN_NUMBER));
     wanted.length = answer.length;

@@ -22,14 +22,14 @@ PASSED = [
     ("$top=5", "$top=5", "", ""),
     ("", "", "", ""),
 ]
-# what is asked, and the code and the inner error of the answer
+# what is asked, the code of the answer, and of its inner error the filter and the span
 REFUSED = [
-    ("$filter=Active%20and%20Foo%20eq%201", "UnknownProperty",
-     {"span": [11, 14], "pointer": "Active and Foo eq 1\n           ^^^"}),
-    ("$top=5&$filter=Name%20eq", "Unexpected", {"span": [7, 7], "pointer": "Name eq\n       ^"}),
-    ("x=1;$filter=Foo&$top=5", "Disguised", None),
-    ("$filter=Active&$filter=Active", "Repeated", None),
-    ("$filter=Name%2", "BadEscape", None),
+    ("$filter=Active%20and%20Foo%20eq%201", "UnknownProperty", ("Active and Foo eq 1", {"start": 11, "end": 14})),
+    ("$top=5&$filter=Name%20eq", "Unexpected", ("Name eq", {"start": 7, "end": 7})),
+    ("$filter=Name%20eq%20%22%C3%A9%22", "BadCharacter", ('Name eq "\u00e9"', {"start": 8, "end": 9})),
+    ("x=1;$filter=Foo&$top=5", "Disguised", (None, None)),
+    ("$filter=Active&$filter=Active", "Repeated", (None, None)),
+    ("$filter=Name%2", "BadEscape", (None, None)),
     ("$filter=" + "%20or%20".join(["Active"] * 60), "TooComplex", None),
 ]
 
@@ -51,14 +51,18 @@ def server(words, room, **how):
         process.communicate()
 
 
-def is_refused(said, code, inner):
-    """Whether that is the standard's error body."""
+def is_refused(said, code, at):
+    """Whether that is the standard's error body, with the fault whole as its inner error."""
     status, kind, body = said
     if status != 400 or not kind.startswith("application/json"):
         return False
     error = json.loads(body)["error"]
     is_well = error["code"] == code and error["message"].endswith(".") and error["target"] == "$filter"
-    return is_well and error.get("innererror") == inner
+    inner = error.get("innererror")
+    if at is None or inner is None:
+        return is_well and inner is at
+    is_well = is_well and inner["name"] == code and inner["sentence"] == error["message"]
+    return is_well and (inner["text"], inner["span"]) == at
 
 
 def checks_of_server(name, words, room, **how):
@@ -76,6 +80,6 @@ def checks_of_server(name, words, room, **how):
             # where the framework reads queries before the filter is checked, what it has read is the checked text
             is_well = is_well and parsed in ([], [""], [read, ""])
             yield f"{name} passes on {query}", is_well, said
-        for query, code, inner in REFUSED:
+        for query, code, at in REFUSED:
             said = ask(address, f"/Items?{query}")
-            yield f"{name} refuses {query[:60]}", is_refused(said, code, inner), said
+            yield f"{name} refuses {query[:60]}", is_refused(said, code, at), said

@@ -95,6 +95,13 @@ internal static partial class Tests
         Same(wanted, Thrown<ODataException>(call).Code, wanted);
     }
 
+    /// <summary>An error that has the library's sentence and object.</summary>
+    private static void Said(string wanted, string kind, Action call)
+    {
+        Code(wanted, call);
+        Object(Thrown<ODataException>(call), kind);
+    }
+
     private static void ChecksOfFilters()
     {
         var filter = Item().Check("((Active)) AND ID ge +01 and Tags/any(t:t eq 'b') and Changed lt now()");
@@ -195,16 +202,21 @@ internal static partial class Tests
         Same("row", fault.Code + fault.Path + fault.Line, "WrongKindID1");
         Object(fault, "row");
         var needs = Item().Check("Changed lt now()");
-        Code("MomentNeeded", () => needs.NewJudge().Verdict(text));
-        Code("MomentNeeded", () => needs.Sql(SqlDialect.Sqlite));
-        Code("NotAMoment", () => needs.NewJudge("soon"));
+        Said("MomentNeeded", "moment_needed", () => needs.NewJudge().Verdict(text));
+        Said("MomentNeeded", "moment_needed", () => needs.Sql(SqlDialect.Sqlite));
+        Said("NotAMoment", "not_a_moment", () => needs.NewJudge("soon"));
+        Said("NotAMoment", "not_a_moment", () => needs.Sql(SqlDialect.Sqlite, now: "soon"));
         Code("NotAMoment", () => needs.Sql(SqlDialect.Sqlite, now: "2026-01-01T00:00:00Z\nID=x"));
-        Code("TooCostly", () => Item().Check("Tags/any(t:t eq 'z')").NewJudge(bound: 2).Verdict(text));
-        Code("UnknownColumn", () => Item().Check("Active").Sql(SqlDialect.Sqlite, Columns("No", "x")));
-        Code("UnknownColumn", () => Item().Check("Active").Sql(SqlDialect.Sqlite, Columns("ID=", "x")));
-        Code("Nul", () => Item().Check("Name eq 'a\0'").Sql(SqlDialect.Sqlite));
+        var costly = Item().Check("Tags/any(t:t eq 'z')");
+        Said("TooCostly", "too_costly", () => costly.NewJudge(bound: 2).Verdict(text));
+        foreach (var property in new[] { "No", "ID=" })
+        {
+            Said("UnknownColumn", "unknown_column",
+                () => Item().Check("Active").Sql(SqlDialect.Sqlite, Columns(property, "x")));
+        }
+        Said("Nul", "unsayable", () => Item().Check("Name eq 'a\0'").Sql(SqlDialect.Sqlite));
         var deep = string.Concat(Enumerable.Repeat("(ID add ", 60)) + "ID" + new string(')', 60) + " eq 1";
-        Code("TooDeep", () => Item().Check(deep).Sql(SqlDialect.Sqlite));
+        Said("TooDeep", "too_deep", () => Item().Check(deep).Sql(SqlDialect.Sqlite));
     }
 
     private static Dictionary<string, string> Columns(string name, string column)

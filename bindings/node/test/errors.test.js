@@ -44,7 +44,8 @@ test('the object of each kind of mistake', () => {
   const refused = thrown(() => item().check("name eq 'a'")).object;
   assert.deepEqual(refused.suggestions, [{ start: 0, end: 4, text: 'Name' }]);
   const costly = thrown(() => item().check("Tags/any(t:t eq 'z')").judge({ bound: 2 }).verdict(row(1, 'null', true)));
-  assert.equal(costly.object, undefined);
+  const { object, message } = costly;
+  assert.deepEqual([object.class, object.sentence, object.line], ['too_costly', message, null]);
 });
 
 test('the error of each kind of mistake', () => {
@@ -76,7 +77,11 @@ test('codes of errors that say everything', () => {
     Nul: [() => item().check("Name eq 'a\0'").sql('sqlite')],
     TooDeep: [() => item().check(`${'(ID add '.repeat(60)}ID${')'.repeat(60)} eq 1`).sql('sqlite')],
   };
-  for (const [code, all] of Object.entries(calls)) for (const call of all) assert.equal(thrown(call).code, code);
+  for (const [code, all] of Object.entries(calls)) {
+    for (const error of all.map(thrown)) {
+      assert.deepEqual([error.code, error.object.name, error.object.sentence], [code, code, error.message]);
+    }
+  }
 });
 
 test('a lone surrogate is refused, wherever a text is given', () => {

@@ -260,7 +260,7 @@ class Filter(_Held):
         """
         form = form_of(dialect, document)
         owned = self._open()
-        return conditions_of(owned.library, owned.handle, form, now, columns_in(columns or {}, document))
+        return conditions_of(owned.library, owned.handle, form, now, columns_in(owned.library, columns or {}, document))
 
     def judge(self, now: Optional[str] = None, bound: Optional[int] = None) -> Judge:
         """A judge by this filter; `now` is the moment that now() stands for. Raises NotAMoment.
@@ -346,7 +346,7 @@ class Judge(_Held):
         if status == MOMENT_NEEDED:
             return library._worded(MomentNeeded(), status, answer, "")
         if status == TOO_COSTLY:
-            return TooCostly(line, kept)
+            return library._worded(TooCostly(line, kept), status, answer, "")
         path = library._text("path", owned.handle) if status == ROW_FAULT else ""
         fault = RowFault(library._fault(status, answer.fault), path, line, kept)
         return library._worded(fault, status, answer, path)

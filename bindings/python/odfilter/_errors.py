@@ -146,9 +146,6 @@ class TooCostly(Error):
         super().__init__(line, kept)
         self.line, self.kept = line, kept
 
-    def __str__(self) -> str:
-        return "the filter costs more on the row than the judge's bound"
-
 
 class Unsayable(Error):
     """A filter has no conditions of SQL for an engine: `name` is "Nul" or "TooDeep".
@@ -161,15 +158,9 @@ class Unsayable(Error):
         super().__init__(name)
         self.name = name
 
-    def __str__(self) -> str:
-        return "the conditions nest too deeply" if self.name == "TooDeep" else "a text has the character U+0000"
-
 
 class UnknownColumn(Error, ValueError):
     """A column was named for what is no property of the filter's type."""
-
-    def __str__(self) -> str:
-        return "a column is named for no property of the type"
 
 
 class RowFault(Error):

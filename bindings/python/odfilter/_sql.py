@@ -7,7 +7,7 @@ import os
 from typing import Any, Mapping, NamedTuple, Optional, Union
 
 from ._errors import Error, MomentNeeded, NotAMoment, UnknownColumn, Unsayable
-from ._library import MOMENT_NEEDED, NOT_A_MOMENT, OK, TOO_SMALL, UNKNOWN_COLUMN, UNSAYABLE
+from ._library import MOMENT_NEEDED, NOT_A_MOMENT, OK, TOO_SMALL, UNKNOWN_COLUMN
 from ._library import Library, _Answer, _borrowed_text, _buffer_of
 
 # the forms of odfilter.h, by the dialect and whether one column has the row as JSON
@@ -68,12 +68,12 @@ def conditions_of(library: Library, handle: Any, form: int, now: Optional[str], 
     return Conditions(*(Statement(**found[it]) if it in found else None for it in Conditions._fields))
 
 
-def columns_in(columns: Mapping[str, str], document: Optional[str]) -> list[str]:
+def columns_in(library: Library, columns: Mapping[str, str], document: Optional[str]) -> list[str]:
     """The lines about columns, or the name of the one."""
     if document is not None:
         return [document]
     if any("=" in name for name in columns):
-        raise UnknownColumn()
+        raise _unsaid(library, UNKNOWN_COLUMN, _Answer(), "")
     lines = [f"{name}={column}" for name, column in columns.items()]
     if any("\n" in line for line in lines):
         raise ValueError("the name of a column has a line feed")
@@ -86,7 +86,8 @@ def _unsaid(library: Library, status: int, answer: _Answer, now: str) -> Error:
         return library._worded(MomentNeeded(), status, answer, "")
     if status == NOT_A_MOMENT:
         return library._worded(NotAMoment(), status, answer, now)
-    return UnknownColumn() if status == UNKNOWN_COLUMN else Unsayable("Nul" if status == UNSAYABLE else "TooDeep")
+    error = UnknownColumn() if status == UNKNOWN_COLUMN else Unsayable(library._fault(status, answer.fault))
+    return library._worded(error, status, answer, "")
 
 
 # They are the module's own: so are they shown, and sent to other processes.

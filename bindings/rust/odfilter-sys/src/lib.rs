@@ -98,7 +98,7 @@ pub const FAULT_NAMES: &[(u32, u32, &str)] = &[
     (23, 2, "DivideByZero"),
     (24, 0, "LineTooLong"),
     (25, 0, "TooCostly"),
-    (26, 0, "Unsayable"),
+    (26, 0, "Nul"),
     (27, 0, "TooDeep"),
     (28, 0, "UnknownColumn"),
 ];

@@ -1,4 +1,5 @@
 //! Why a call gave nothing.
+use crate::calls::message_of;
 use odfilter_sys as c;
 use std::ops::Range;
 use std::{fmt, io};
@@ -26,8 +27,8 @@ pub enum Error {
     TooDeep,
     /// A column is named for no property of the type.
     UnknownColumn,
-    /// The text is not a moment.
-    NotAMoment,
+    /// The text is not a moment; the sentence shows it.
+    NotAMoment(String),
     /// The filter calls now(), and the judge has no moment.
     MomentNeeded,
     /// The filter costs more on the row than the judge's bound.
@@ -124,17 +125,27 @@ pub struct RowFault {
     pub kept: Vec<u8>,
     /// A sentence for people.
     pub message: String,
-    /// The object that the program prints by `--format json`, without the line; empty where a row costs too much.
+    /// The object that the program prints by `--format json`, without the line.
     pub json: String,
+}
+
+/// The library's sentence about a status that says everything but what it is about.
+fn sentence_of(status: u32, about: &str) -> String {
+    message_of(None, status, about.as_bytes(), &c::odfilter_answer::default())
 }
 
 /// The error of a status that says everything.
 pub(crate) fn plain(status: u32) -> Error {
+    plain_about(status, "")
+}
+
+/// The error of a status that says everything but what it is about.
+pub(crate) fn plain_about(status: u32, about: &str) -> Error {
     match status {
         c::ODFILTER_NOT_UTF8 => Error::NotUtf8,
         c::ODFILTER_MEMORY => Error::OutOfMemory,
         c::ODFILTER_MOMENT_NEEDED => Error::MomentNeeded,
-        c::ODFILTER_NOT_A_MOMENT => Error::NotAMoment,
+        c::ODFILTER_NOT_A_MOMENT => Error::NotAMoment(sentence_of(status, about)),
         c::ODFILTER_UNSAYABLE => Error::Nul,
         c::ODFILTER_TOO_DEEP => Error::TooDeep,
         c::ODFILTER_UNKNOWN_COLUMN => Error::UnknownColumn,
@@ -148,15 +159,12 @@ impl fmt::Display for Error {
             Error::Refused(it) => to.write_str(&it.message),
             Error::Query(it) => to.write_str(&it.message),
             Error::Schema(it) => to.write_str(&it.message),
-            Error::UnknownType(message) => to.write_str(message),
+            Error::UnknownType(message) | Error::NotAMoment(message) => to.write_str(message),
             Error::Row(it) | Error::TooCostly(it) => to.write_str(&it.message),
-            Error::Nul => to.write_str("a text has the character U+0000, which no engine takes"),
-            Error::TooDeep => to.write_str("the conditions nest too deeply for the engine"),
-            Error::UnknownColumn => to.write_str("a column is named for no property of the type"),
-            Error::NotAMoment => to.write_str("the text is not a moment"),
-            Error::MomentNeeded => {
-                to.write_str("the filter calls now(), and the judge has no moment")
-            }
+            Error::Nul => to.write_str(&sentence_of(c::ODFILTER_UNSAYABLE, "")),
+            Error::TooDeep => to.write_str(&sentence_of(c::ODFILTER_TOO_DEEP, "")),
+            Error::UnknownColumn => to.write_str(&sentence_of(c::ODFILTER_UNKNOWN_COLUMN, "")),
+            Error::MomentNeeded => to.write_str(&sentence_of(c::ODFILTER_MOMENT_NEEDED, "")),
             Error::NotUtf8 => to.write_str("the text is not UTF-8"),
             Error::OutOfMemory => to.write_str("out of memory"),
             Error::Io(error) => error.fmt(to),

@@ -1,6 +1,6 @@
 //! Judges, which judge rows by a filter.
 use crate::calls::{buffer, bytes, code_of, json_of, message_of, text, Handle};
-use crate::error::{plain, Error, Result, RowFault};
+use crate::error::{plain, plain_about, Error, Result, RowFault};
 use crate::filter::Filter;
 use odfilter_sys as c;
 use std::cell::Cell;
@@ -47,7 +47,7 @@ impl Judge {
         // SAFETY: the handle is a judge, and the bytes are of this call.
         match unsafe { c::odfilter_set_moment(self.handle.at_mut(), bytes(moment.as_bytes())) } {
             c::ODFILTER_OK => Ok(self),
-            status => Err(plain(status)),
+            status => Err(plain_about(status, moment)),
         }
     }
 
@@ -116,16 +116,16 @@ impl Judge {
             other => return plain(other),
         };
         let code = code_of(status, answer);
-        if status == c::ODFILTER_TOO_COSTLY {
-            let message = "the filter costs more on the row than the judge's bound".to_owned();
-            let json = String::new();
-            return Error::TooCostly(Box::new(RowFault { code, path, line, kept, message, json }));
-        }
         let message = message_of(None, status, path.as_bytes(), answer);
         // the line may be counted from elsewhere, so the object has none
         let alone = c::odfilter_answer { number: 0, ..*answer };
         let json = json_of(None, status, path.as_bytes(), &alone);
-        Error::Row(Box::new(RowFault { code, path, line, kept, message, json }))
+        let fault = Box::new(RowFault { code, path, line, kept, message, json });
+        if status == c::ODFILTER_TOO_COSTLY {
+            Error::TooCostly(fault)
+        } else {
+            Error::Row(fault)
+        }
     }
 
     /// The path of the last row's fault.

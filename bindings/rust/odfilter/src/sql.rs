@@ -1,6 +1,6 @@
 //! A filter as conditions of SQL.
 use crate::calls::{bytes, text, Handle};
-use crate::error::{plain, Error, Result};
+use crate::error::{plain_about, Error, Result};
 use crate::filter::Filter;
 use odfilter_sys as c;
 
@@ -66,7 +66,7 @@ impl Filter {
         let made = Handle::made(|to| unsafe {
             c::odfilter_new_sql(self.handle.at(), form, bytes(how.as_bytes()), to, &mut answer)
         });
-        let made = made.map_err(plain)?;
+        let made = made.map_err(|status| plain_about(status, now.unwrap_or_default()))?;
         Ok(Conditions {
             outcome: statement(&made, c::ODFILTER_SQL_OUTCOME)?,
             keep: statement(&made, c::ODFILTER_SQL_KEEP)?,
@@ -110,7 +110,7 @@ fn value(conditions: &Handle, which: u32, index: u32) -> Result<Parameter> {
 /// The lines that `odfilter_sql` takes.
 fn how(rows: Rows<'_>, now: &str) -> Result<String> {
     if now.contains('\n') {
-        return Err(Error::NotAMoment);
+        return Err(plain_about(c::ODFILTER_NOT_A_MOMENT, now));
     }
     let mut lines = now.to_owned();
     match rows {

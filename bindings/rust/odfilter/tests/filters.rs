@@ -127,9 +127,13 @@ fn other_errors() {
     let needs = item().check("Changed lt now()").unwrap();
     let text = row(1, "null", true);
     assert!(matches!(needs.judge().unwrap().verdict(&text), Err(Error::MomentNeeded)));
-    assert!(matches!(needs.judge().unwrap().at("soon"), Err(Error::NotAMoment)));
+    let Err(Error::NotAMoment(said)) = needs.judge().unwrap().at("soon") else { panic!() };
+    assert!(said.contains("\"soon\""));
     let mut costly = item().check("Tags/any(t:t eq 'z')").unwrap().judge().unwrap().within(2);
-    assert!(matches!(costly.verdict(&text), Err(Error::TooCostly(it)) if it.line == 1));
+    let Err(Error::TooCostly(fault)) = costly.verdict(&text) else { panic!() };
+    assert_eq!((fault.line, fault.code.as_str()), (1, "TooCostly"));
+    assert!(fault.message.contains("costs more"));
+    is_object_of(&fault.json, "too_costly", "TooCostly");
     // what is not UTF-8, as the bytes of a lone surrogate, cannot be a str; a query and a row may have it
     let surrogate = b"filter=Name eq '\xed\xa0\x80'";
     assert!(matches!(item().check_query(surrogate), Err(Error::Query(it)) if it.code == "NotUtf8"));
@@ -176,5 +180,5 @@ fn sql() {
     let now = item().check("Changed lt now()").unwrap();
     assert!(matches!(now.sql(Dialect::Sqlite, columns, None), Err(Error::MomentNeeded)));
     let two_lines = Some("2026-01-01T00:00:00Z\nID=x");
-    assert!(matches!(now.sql(Dialect::Sqlite, columns, two_lines), Err(Error::NotAMoment)));
+    assert!(matches!(now.sql(Dialect::Sqlite, columns, two_lines), Err(Error::NotAMoment(_))));
 }

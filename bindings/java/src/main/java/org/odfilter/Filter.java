@@ -120,13 +120,13 @@ public final class Filter implements AutoCloseable {
 
     private Conditions conditions(int form, String lines, String now) {
         if (now != null && now.contains("\n")) {
-            throw ODataException.of(Numbers.NOT_A_MOMENT);
+            throw ODataException.of(Numbers.NOT_A_MOMENT, now);
         }
         byte[] how = Text.utf8((now == null ? "" : now) + "\n" + lines);
         long[] made = new long[1];
         int status = handle.status(at -> Calls.newSql(at, form, how, made, new Answer()));
         if (status != Numbers.OK) {
-            throw ODataException.of(status);
+            throw ODataException.of(status, now == null ? "" : now);
         }
         try {
             return new Conditions(made[0]);

@@ -19,7 +19,7 @@ public final class Judge implements AutoCloseable {
         byte[] moment = Text.utf8(now);
         int status = handle.status(it -> Calls.setMoment(it, moment));
         if (status != Numbers.OK) {
-            throw ODataException.of(status);
+            throw ODataException.of(status, now);
         }
         return this;
     }

@@ -150,7 +150,7 @@ final class Numbers {
             case 25 << 8 | 0:
                 return "TooCostly";
             case 26 << 8 | 0:
-                return "Unsayable";
+                return "Nul";
             case 27 << 8 | 0:
                 return "TooDeep";
             case 28 << 8 | 0:

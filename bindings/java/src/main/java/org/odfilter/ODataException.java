@@ -35,23 +35,23 @@ public class ODataException extends RuntimeException {
 
     /** The error of a status that says everything. */
     static RuntimeException of(int status) {
-        switch (status) {
-            case Numbers.NOT_UTF8:
-                return new ODataException("NotUtf8", "the text is not UTF-8");
-            case Numbers.MEMORY:
-                throw new OutOfMemoryError("odfilter");
-            case Numbers.MOMENT_NEEDED:
-                return new ODataException("MomentNeeded", "the filter calls now(), and the judge has no moment");
-            case Numbers.NOT_A_MOMENT:
-                return new ODataException("NotAMoment", "the text is not a moment");
-            case Numbers.UNSAYABLE:
-                return new ODataException("Nul", "a text has the character U+0000, which no engine takes");
-            case Numbers.TOO_DEEP:
-                return new ODataException("TooDeep", "the conditions nest too deeply for the engine");
-            case Numbers.UNKNOWN_COLUMN:
-                return new ODataException("UnknownColumn", "a column is named for no property of the type");
-            default:
-                return new IllegalStateException("odfilter: status " + status);
+        return of(status, "");
+    }
+
+    /** The error of a status that says everything but what it is about. */
+    static RuntimeException of(int status, String about) {
+        if (status == Numbers.MEMORY) {
+            throw new OutOfMemoryError("odfilter");
         }
+        if (status == Numbers.NOT_UTF8) {
+            return new ODataException("NotUtf8", "the text is not UTF-8");
+        }
+        if (Numbers.nameOf(status, 0) == null) {
+            return new IllegalStateException("odfilter: status " + status);
+        }
+        byte[] text = Text.utf8(about);
+        Answer fault = new Answer();
+        return new ODataException(Text.codeOf(status, fault), Text.messageOf(0, status, text, fault),
+                Text.jsonOf(0, status, text, fault));
     }
 }

@@ -11,15 +11,10 @@ public final class RowException extends ODataException {
     private final byte[] kept;
 
     RowException(int status, Answer answer, byte[] path, long line, byte[] kept) {
-        super(Text.codeOf(status, answer), sentence(status, answer, path), json(status, answer, path));
+        super(Text.codeOf(status, answer), Text.messageOf(0, status, path, answer), json(status, answer, path));
         this.path = Text.of(path);
         this.line = line;
         this.kept = kept;
-    }
-
-    private static String sentence(int status, Answer answer, byte[] path) {
-        return status == Numbers.TOO_COSTLY ? "the filter costs more on the row than the judge's bound"
-                : Text.messageOf(0, status, path, answer);
     }
 
     /** Without the line, which may be counted from elsewhere. */
@@ -27,7 +22,7 @@ public final class RowException extends ODataException {
         Answer alone = new Answer();
         alone.fault = answer.fault;
         alone.length = answer.length;
-        return status == Numbers.TOO_COSTLY ? "" : Text.jsonOf(0, status, path, alone);
+        return Text.jsonOf(0, status, path, alone);
     }
 
     /** The path from the row to the value at fault, as Parts/0/Qty; it may be empty. */

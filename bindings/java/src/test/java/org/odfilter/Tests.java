@@ -90,6 +90,12 @@ final class Tests {
         that("sentence", json.contains("\"sentence\":\"" + error.getMessage().replace("\"", "\\\"")), json);
     }
 
+    /** An error that has the library's sentence and object. */
+    private static void said(String wanted, String kind, Check.Call call) {
+        code(wanted, call);
+        object(thrown(ODataException.class, call), kind);
+    }
+
     private static void checksOfVerdicts() {
         Judge judge = item().check("Active and contains(Name,'a')").judge();
         equal("true", judge.verdict(row(1, "\"cab\"", true)), Verdict.TRUE);
@@ -147,16 +153,19 @@ final class Tests {
         equal("row", List.of(fault.code(), fault.path(), fault.line()), List.of("WrongKind", "ID", 1L));
         object(fault, "row");
         Filter needs = item().check("Changed lt now()");
-        code("MomentNeeded", () -> needs.judge().verdict(text));
-        code("MomentNeeded", () -> needs.sql(Dialect.SQLITE, Map.of(), null));
-        code("NotAMoment", () -> needs.judge().at("soon"));
+        said("MomentNeeded", "moment_needed", () -> needs.judge().verdict(text));
+        said("MomentNeeded", "moment_needed", () -> needs.sql(Dialect.SQLITE, Map.of(), null));
+        said("NotAMoment", "not_a_moment", () -> needs.judge().at("soon"));
+        said("NotAMoment", "not_a_moment", () -> needs.sql(Dialect.SQLITE, Map.of(), "soon"));
         code("NotAMoment", () -> needs.sql(Dialect.SQLITE, Map.of(), "2026-01-01T00:00:00Z\nID=x"));
-        code("TooCostly", () -> item().check("Tags/any(t:t eq 'z')").judge().within(2).verdict(text));
-        code("UnknownColumn", () -> item().check("Active").sql(Dialect.SQLITE, Map.of("No", "x"), null));
-        code("UnknownColumn", () -> item().check("Active").sql(Dialect.SQLITE, Map.of("ID=", "x"), null));
-        code("Nul", () -> item().check("Name eq 'a\0'").sql(Dialect.SQLITE, Map.of(), null));
+        said("TooCostly", "too_costly", () -> item().check("Tags/any(t:t eq 'z')").judge().within(2).verdict(text));
+        for (String property : List.of("No", "ID=")) {
+            Map<String, String> columns = Map.of(property, "x");
+            said("UnknownColumn", "unknown_column", () -> item().check("Active").sql(Dialect.SQLITE, columns, null));
+        }
+        said("Nul", "unsayable", () -> item().check("Name eq 'a\0'").sql(Dialect.SQLITE, Map.of(), null));
         String deep = "(ID add ".repeat(60) + "ID" + ")".repeat(60) + " eq 1";
-        code("TooDeep", () -> item().check(deep).sql(Dialect.SQLITE, Map.of(), null));
+        said("TooDeep", "too_deep", () -> item().check(deep).sql(Dialect.SQLITE, Map.of(), null));
     }
 
     /** Where a text is given, a lone surrogate is refused. */
