@@ -10,7 +10,9 @@ from built_program import write
 SLACK = 2 << 20  # bytes that no row accounts for: pages, and what the interpreter takes meanwhile
 WIDE = 1_000
 ROW = 300_000  # bytes of a row
+LONG_ROW = 8_000_000  # those of one whose texts take none
 MOST = 36  # how many times its bytes a row takes
+MOST_UNASKED = 0.5  # where the filter has none of the names in it, and the judge has had a row as long
 
 
 def schema(name):
@@ -25,10 +27,11 @@ def schema(name):
     return {"$Version": "4.01", "N": types}
 
 
-def filled(begin, each, end):
-    return begin + ",".join([each] * ((ROW - len(begin) - len(end)) // (len(each) + 1))) + end
+def filled(begin, each, end, size=ROW):
+    return begin + ",".join([each] * ((size - len(begin) - len(end)) // (len(each) + 1))) + end
 
 
+UNASKED = "texts that nobody asks"
 # a name, the filter, and the row; of a wide type the filter asks one property or two
 ROWS = [
     ("empty members", "c/any(v:v/s1 eq 'a')", filled('{"c":[', "{}", "]}")),
@@ -42,12 +45,14 @@ ROWS = [
     ("texts", "x/any(v:v eq 'a')", filled('{"x":[', '""', "]}")),
     ("escaped texts", "x/any(v:v eq 'a')", filled('{"x":[', '"\\u0061"', "]}")),
     ("what nobody asks", "n/any(v:v eq 1)", filled('{"n":[],"z":[', "[]", "]}")),
+    (UNASKED, "c/any(v:v/s1 eq 'a')", filled('{"c":[', '{"s2":"' + "a" * 200 + '"}', "]}", LONG_ROW)),
     ("a fault at the end", "c/any(v:v/s1 eq 'a')", filled('{"c":[', "{}", ",5]}")),
     ("no JSON at the end", "c/any(v:v/s1 eq 'a')", filled('{"c":[', "{}", "]")),
 ]
-# what a row takes, of a judge that has judged before and of a new one: the difference in the most bytes of memory
+# what a row takes, of a judge that has judged before and of a new one: the difference in the most bytes of memory; none
+# is left then that was given back
 MEASURED = """
-import json, sys
+import ctypes, json, sys
 sys.path.insert(0, sys.argv[1])
 import odfilter
 
@@ -66,6 +71,7 @@ judge = odfilter.Schema(json.dumps(asked["schema"])).type("N.T").check(asked["fi
 row = asked["row"].encode()
 for before in asked["before"]:
     verdict(judge, before.encode())
+ctypes.CDLL(None).malloc_trim(0)
 with open("/proc/self/clear_refs", "w") as out:
     out.write("5")
 start = figure("VmRSS:")
@@ -74,13 +80,21 @@ print(figure("VmHWM:") - start, said)
 """
 
 
+def rows_before(name, owned):
+    """What a judge has judged before a row: nothing, or two rows; two as long before a long one, for its buffer."""
+    if name == UNASKED:
+        return [[f'{{"{owned}":[],"z":"{"a" * LONG_ROW}"}}'] * 2]
+    return [[], [f'{{"{owned}":[]}}'] * 2]
+
+
 def attacks(room):
     for name, text, row in ROWS:
         owned = text.partition("/")[0]
-        for before in ([], [f'{{"{owned}":[]}}'] * 2):
+        for before in rows_before(name, owned):
             asked = {"schema": schema(owned), "filter": text, "row": row, "before": before}
             words = [sys.executable, "-c", MEASURED, MODULE, write(f"{room}/row.json", json.dumps(asked))]
             done = subprocess.run(words, capture_output=True, text=True, timeout=120, env=os.environ, check=False)
             taken = int(done.stdout.split()[0]) if done.returncode == 0 else -1
-            is_well = 0 <= taken < MOST * len(row) + SLACK
+            most = MOST_UNASKED if name == UNASKED else MOST
+            is_well = 0 <= taken < most * len(row) + SLACK
             yield f"{name}, after {len(before)} rows", is_well, (taken / len(row), done.stdout, done.stderr)
