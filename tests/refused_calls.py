@@ -111,10 +111,20 @@ EVALUATED = [(name, on_row(text)[0], E0, wanted) for name, text, wanted in (
     ("division", "Parts/all(p:1 div 0 eq p/Qty)", DIVIDES),
     ("moment", "Changed eq 2020-01-01T01:00:00+01:00", IS_TRUE),
 )]
-SCHEMAS = {"items.json": ITEMS}
+FILES = {"items.json": ITEMS, "rows.json": B + A}
 OF_ITEMS = ["--schema", "items.json", "--type", "Mini.Item"]
 FIRST = ["filter", *OF_ITEMS, "--filter", "Active and ID eq 1 and Name eq 'a'"]
 LISTED = "entity Mini.Item\n  Active Edm.Boolean\n  ID Edm.Int32\n  Name Edm.String\n"
+ON_ROW = """0..36 and Edm.Boolean = true
+  0..7 gt Edm.Boolean = true
+    0..2 property ID Edm.Int32 = 1
+    6..7 literal Edm.Int32 = 0
+  12..36 eq Edm.Boolean = true
+    12..28 concat Edm.String = 'ab'
+      19..23 property Name Edm.String = 'a'
+      24..27 literal Edm.String = 'b'
+    32..36 literal Edm.String = 'ab'
+"""
 # runs of the program: the name, the words, standard input, and what is written, reported and returned
 RUNS = [
     ("check", ["check", *OF_ITEMS, "--filter=-(5) lt 0"], "", ("accepted\n- 5 lt 0\n", "", 0)),
@@ -126,6 +136,15 @@ RUNS = [
      ("0\n", "", 0)),
     ("filter_of_items", ["filter", *OF_ITEMS, "--filter", "ID eq 1", "--collection", "--items"],
      '{"value":[%s]}' % A.strip(), (A, "", 0)),
+    ("filter_of_escaped_items", ["filter", *OF_ITEMS, "--filter", "ID eq 1", "--collection", "--items"],
+     '{"\\u0076alue":[%s]}' % A.strip(), (A, "", 0)),
+    ("no_items", ["filter", *OF_ITEMS, "--filter", "ID eq 1", "--collection", "--items"], "[]",
+     ("", "row NotACollection\n", 4)),
+    ("explain_of_row", ["explain", *OF_ITEMS, "--filter", "ID gt 0 and concat(Name,'b') eq 'ab'", "--row=2"], B + A,
+     (ON_ROW, "", 0)),
+    ("explain_of_fault", ["explain", *OF_ITEMS, "--filter", "ID gt 1", "--row=1"], "{}",
+     ("", "row 1 Missing Active\n", 4)),
+    ("filter_of_part", [*FIRST, "--rows=rows.json", "--part=2/2"], "", (A, "", 0)),
     ("types", ["types", *OF_ITEMS[:2]], "", (LISTED, "", 0)),
     ("version", ["--version"], "", ("odfilter 0.1.0\n", "", 0)),
 ]

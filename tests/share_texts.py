@@ -53,7 +53,7 @@ def section(text, title):
 
 def options_of(text):
     for line in text.splitlines():
-        found = re.match(r"^ +((?:-\w, )?--[\w-]+)(?: <(\w+)>)?(?:  +(.*))?$", line)
+        found = re.match(r"^ +((?:-\w, )?--[\w-]+)(?: <([\w/]+)>)?(?:  +(.*))?$", line)
         if found:
             yield Option(found[1].split(", "), found[2], found[3] or "")
 

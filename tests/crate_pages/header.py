@@ -11,9 +11,11 @@ from .sources import text_of
 
 __all__ = ["DATA", "checks", "page"]
 HEADER, DATA = "include/odfilter.h", "include/odfilter.json"
-SOURCES = ("c_types", "exports", "fault_exports", "filter_exports", "judge_exports", "sql_exports", "type_exports")
-EXPORTS = [f"crates/odfilter_c/src/{it}.rt" for it in SOURCES]
+SOURCES = "c_types exports fault_exports filter_exports judge_exports line_exports sql_exports type_exports"
+EXPORTS = [f"crates/odfilter_c/src/{it}.rt" for it in SOURCES.split()]
 SIZES = {"uint32_t": 4, "uint64_t": 8, "size_t": 8, "const char *": 8, "char *": 8}
+# the one fault of a status that goes by another name than its status
+LONE = {"UNSAYABLE": "Nul"}
 # what stands for a struct in a flat call: the type of its address
 FLAT = {"odfilter_bytes": "const char *", "odfilter_buffer": "char *"}
 # the types of C beside those of the sources
@@ -61,7 +63,7 @@ def faults(statuses, part):
     with_faults = set(re.findall(r"/\* ODFILTER_(\w+_FAULT)", part))
     for status in statuses:
         if status["number"] >= 6 and status["name"] not in with_faults | {"UNKNOWN_NUMBER"}:
-            name = camel(status["name"].removesuffix("_FAULT"))
+            name = LONE.get(status["name"], camel(status["name"].removesuffix("_FAULT")))
             yield {"status": status["name"], "number": 0, "name": name, "constant": f"ODFILTER_{status['name']}"}
 
 
