@@ -2,14 +2,15 @@
 use Rattle.std.proofs.Common.{◌≡◌, ℕ, ◌+◌, ◌-◌, ◌<◌, ◌≤◌, List, [], ◌∷◌, length, take, drop, get_or, Bool, true, false, ◌&&◌, ◌||◌, refl, sym, ap, ◌∙◌, subst, arith}
 use mir.Val.{bool_byte}
 use Rattle.std.proofs.lemmas.Bool.{true≢false}
-use Rattle.json.specs.Token.{boolean, null, number, string}
-use Rattle.json.specs.Lex.{token, after_value, between, lex, punctuate}
+use Rattle.json.specs.Token.{Token, boolean, key, null, number, string}
+use Rattle.json.specs.Lex.{token, after_value, between, fresh, lex, punctuate}
 use Rattle.json.specs.Print.{IsNumber}
+use Rattle.json.specs.Word.{is_space}
 use Rattle.json.specs.Written.{PlainBetween}
 use Rattle.json_room.specs.Keys.{name_with_colon, quoted_name}
 use Rattle.json_room.specs.private.Lexemes.{BeginsKey, PassesSpaces, StandsAt}
 use Rattle.json_room.proofs.KeyLemmas.{key_there, member_there}
-use Rattle.json_room.proofs.LexemeLemmas.{begins_false, begins_null, begins_text, begins_true, from_byte, number_begins, stay}
+use Rattle.json_room.proofs.LexemeLemmas.{begins_false, begins_null, begins_text, begins_true, from_byte, number_begins, one_more_space, stay}
 use Rattle.json_room.specs.Lexemes.{StandsTo}
 use Rattle.json_room.proofs.KeysStand.{NoFeed, each_at, bytes_stand, stands_by_bytes}
 use Rattle.json_room.proofs.RoomLemmas.{byte_reported, ends_here, other_default, within_byte}
@@ -88,4 +89,15 @@ spaced_key_stands d i k name plain stands spaces colon =
     record {
       within = omega (arith, within_byte d k 58 colon (λ e. omega (arith, e)));
       begins = λ turn may. key_there turn d i i k name may (stay d i (omega (arith, stands.within))) plain stands spaces (other_default d k 58 colon (λ e. omega (arith, e)));
+    }
+
+-- the same, with a space after the colon
+pub key_before_space : (d : List ℕ) (i j : ℕ) (name : List ℕ) → BeginsKey d i name j → get_or d j 10 ≡ 32 → BeginsKey d i name (j + 1)
+key_before_space d i j name begins is =
+    let within : j < length d = within_byte d j 32 is (λ e. omega (arith, e)) in
+    let white : is_space (get_or d j 32) ≡ true = ap is_space (other_default d j 32 is (λ e. omega (arith, e))) in
+    let passed : PassesSpaces d j (j + 1) = one_more_space d j j within white (stay d j begins.within) in
+    record {
+      within = passed.bounds.1;
+      begins = λ turn may. begins.begins turn may ∙ ap (λ (ts : List Token). key name ∷ ts) (sym (ap (punctuate fresh) passed.same));
     }

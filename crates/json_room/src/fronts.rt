@@ -29,17 +29,43 @@ pub fn mask_of(count: usize) -> [u8; 16]
     mask
 }
 
+/// What `equal_bytes` returns where all sixteen are equal.
+pub(crate) const ALL_EQUAL: u64 = 0xffff;
+
+/// What `equal_bytes` never returns.
+pub(crate) const NEVER: u64 = 0x1_0000;
+
 /// Whether sixteen bytes are these, where the mask has all bits. Its clause says nothing of false.
 #[inline(always)]
 pub fn are_front(lanes: u8x16, mask: u8x16, front: u8x16) -> bool
     ensures { IsTrue result → (k : ℕ) → k < 16 → get_or mask k 0 ≡ 255 → get_or lanes k 0 ≡ get_or front k 0 }
 {
-    are_equal_16(lanes & mask, front)
+    equal_bytes(lanes, mask, front) == ALL_EQUAL
+}
+
+/// Returns a bit for each of sixteen bytes: whether it is that of the other, where the mask has all bits. Its clauses
+/// say nothing of single bits.
+#[inline(always)]
+pub(crate) fn equal_bytes(lanes: u8x16, mask: u8x16, front: u8x16) -> u64
+    ensures all { result ≡ 65535 → (k : ℕ) → k < 16 → get_or mask k 0 ≡ 255 → get_or lanes k 0 ≡ get_or front k 0 }
+    ensures few { result < 65536 }
+{
+    equal_lanes((lanes ^ front) & mask, u8x16::splat(0))
 }
 
 #[inline(always)]
-fn are_equal_16(lanes: u8x16, others: u8x16) -> bool
-    ensures { IsTrue result → lanes ≡ others }
+fn equal_lanes(lanes: u8x16, others: u8x16) -> u64
+    ensures all { result ≡ 65535 → lanes ≡ others }
+    ensures few { result < 65536 }
 {
-    lanes.simd_eq(others).to_bitmask() == 0xffff
+    lanes.simd_eq(others).to_bitmask()
+}
+
+/// What `equal_bytes` returns where a word of so many bytes stands there; what it never returns where the word has more
+/// than sixteen.
+pub(crate) fn wanted_of(count: usize) -> u64
+    ensures all { result < 65536 → result ≡ 65535 }
+    ensures short { result < 65536 → count ≤ 16 }
+{
+    if count <= 16 { ALL_EQUAL } else { NEVER }
 }

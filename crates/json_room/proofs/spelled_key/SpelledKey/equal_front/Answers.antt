@@ -3,10 +3,10 @@ use Rattle.std.proofs.lemmas.Simd.{get_or-chunk}
 use Rattle.json_room.specs.Keys.{name_with_colon}
 use Rattle.json_room.specs.private.SpelledKey.{StandsByte}
 use Rattle.json_room.proofs.KeysStand.{bytes_stand, name_feeds_not}
-use Rattle.json_room.proofs.spelled_key.SpelledKey.front_stands.Goals as goal
+use Rattle.json_room.proofs.spelled_key.SpelledKey.equal_front.Goals as goal
 
 pub returns-clause-stands : goal.returns-clause-stands
-returns-clause-stands c done =
+returns-clause-stands c is_all =
     let r = c.bytes-bytes.ensures in
     let b = c.bytes-bytes.result.now in
     let a = c.self.inside in
@@ -14,6 +14,6 @@ returns-clause-stands c done =
     let w = name_with_colon a.key in
     let is = c.self.invariant in
     let there : (k : ℕ) → k < 16 → k < length w → get_or b (i + k) 0 ≡ get_or w k 0 =
-    λ k few inside. sym (get_or-chunk i 16 b k 0 few) ∙ c.are_front.ensures done k few (is.mask k few inside) ∙ is.front k few inside in
+    λ k few inside. sym (get_or-chunk i 16 b k 0 few) ∙ c.equal_bytes.ensures.all is_all k few (is.mask k few inside) ∙ is.front k few inside in
     subst (λ (n : List ℕ). (k : ℕ) → k < 16 → StandsByte c.args.line.now i (name_with_colon n) k) c.self.view_is
     (bytes_stand c.args.line.now b r.front r.line_feed r.room i 16 w c.requires (name_feeds_not a.key is.plain) there)

@@ -1,0 +1,19 @@
+use Rattle.std.proofs.Common.{◌≡◌, ◌+◌, ◌<◌, List, ℕ, length, get_or, sym, ◌∙◌, subst}
+use Rattle.std.proofs.lemmas.Simd.{get_or-chunk}
+use Rattle.json_room.specs.Keys.{spaced_name}
+use Rattle.json_room.specs.private.SpelledKey.{StandsByte}
+use Rattle.json_room.proofs.KeysStand.{bytes_stand, spaced_feeds_not}
+use Rattle.json_room.proofs.spelled_key.SpelledKey.equal_spaced_front.Goals as goal
+
+pub returns-clause-stands : goal.returns-clause-stands
+returns-clause-stands c is_all =
+    let r = c.bytes-bytes.ensures in
+    let b = c.bytes-bytes.result.now in
+    let a = c.self.inside in
+    let i = c.args.place in
+    let w = spaced_name a.key in
+    let is = c.self.invariant in
+    let there : (k : ℕ) → k < 16 → k < length w → get_or b (i + k) 0 ≡ get_or w k 0 =
+    λ k few inside. sym (get_or-chunk i 16 b k 0 few) ∙ c.equal_bytes.ensures.all is_all k few (is.spaced_mask k few inside) ∙ is.spaced_front k few inside in
+    subst (λ (n : List ℕ). (k : ℕ) → k < 16 → StandsByte c.args.line.now i (spaced_name n) k) c.self.view_is
+    (bytes_stand c.args.line.now b r.front r.line_feed r.room i 16 w c.requires (spaced_feeds_not a.key is.plain) there)
