@@ -59,6 +59,9 @@ pub(crate) fn outcome_at_front<J: Judge>(
     ensures comes { ComesOf (IsFoundOf (J.says judge.old) line.now) number result }
     ensures same { SaysTheSame (J.says judge.old) (J.says judge.new) }
 {
+    if line.is_empty() {
+        return line_outcome(judge, line, number);
+    }
     if line.len() > LONGEST_LINE {
         return Err(RunStop::TooLong { line: number });
     }
