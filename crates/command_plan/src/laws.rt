@@ -14,9 +14,9 @@ ghost use Rattle.command_plan.specs.WorkedLines as worked;
 /// Worked command lines. A whole line is taken with its four values and no collection, one with `--collection` or
 /// `--now` after it with that, and one with a query instead of the filter with that. Lines with neither and with both
 /// are taken and give not one of them. Lines without a schema and with an unknown option are not taken. `check` takes a
-/// filter, and no rows, no moment and no collection; `explain` a query, a file of rows, a row's number and a moment, and
-/// no collection; `filter` takes no row's number. The program reports its version, its subcommand has none of its own,
-/// and help goes before what is missing.
+/// filter, and no rows, no moment and no collection; `explain` takes a query, a file of rows, a row's number and a
+/// moment, and no collection; `filter` takes no row's number. The program reports its version, its subcommand has none
+/// of its own, and help goes before what is missing.
 pub fn lines_by_example()
     ensures taken { IsTaken worked.whole }
     ensures schema { first_of (codes "schema") (verb_matches worked.whole) ≡ Some (codes "s") }
@@ -61,7 +61,8 @@ pub fn lines_by_example()
 /// Worked command lines with options of reports and of rows. A line with `--hints` and `--format` is taken with their
 /// values, one with a second `--rows` with both files and the first as the plan's, and with `--count` and
 /// `--skip-faulty` with these. A collection's entities are written where `--items` is given, and only there. A part of
-/// the rows is asked for by the text after `--part`. `check` takes any word after `--hints`, of which no hints are asked.
+/// the rows is asked for by the text after `--part`. `check` takes any word after `--hints`; a word that is none of the
+/// three asks for no hints.
 pub fn reports_by_example()
     ensures taken { IsTaken worked.with_reports }
     ensures hints { hints_asked (first_of (codes "hints") (verb_matches worked.with_reports)) ≡ Some Hints.Never }

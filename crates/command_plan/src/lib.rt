@@ -14,6 +14,7 @@ mod laws;
 mod part_texts;
 mod planner;
 mod requests;
+mod verb_values;
 
 pub use laws::{lines_by_example, reports_by_example, types_by_example};
 pub use planner::plan;

@@ -1,7 +1,7 @@
 use Rattle.std.proofs.Common.{◌∙◌, sym, codes}
 use Rattle.clap.specs.Words.{found_of, rows_of}
 use Rattle.command_plan.proofs.LineLemmas.PlanLemmas.{part_of_filter, text_found}
-use Rattle.command_plan.proofs.planner.part_text.Goals as goal
+use Rattle.command_plan.proofs.verb_values.part_text.Goals as goal
 
 pub returns-in-Filter : goal.returns-in-Filter
 returns-in-Filter c =

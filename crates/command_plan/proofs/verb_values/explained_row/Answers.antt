@@ -1,7 +1,7 @@
 use Rattle.std.proofs.Common.{◌∙◌, sym, codes}
 use Rattle.clap.specs.Words.{found_of, rows_of}
 use Rattle.command_plan.proofs.LineLemmas.PlanLemmas.{of_explain, text_found}
-use Rattle.command_plan.proofs.planner.explained_row.Goals as goal
+use Rattle.command_plan.proofs.verb_values.explained_row.Goals as goal
 
 pub returns-in-Explain : goal.returns-in-Explain
 returns-in-Explain c =

@@ -1,7 +1,7 @@
 use Rattle.std.proofs.Common.{codes}
 use Rattle.clap.specs.Words.{found_of}
 use Rattle.command_plan.proofs.LineLemmas.FlagLemmas.{flag_read}
-use Rattle.command_plan.proofs.planner.skips_faulty.Goals as goal
+use Rattle.command_plan.proofs.verb_values.skips_faulty.Goals as goal
 
 pub returns-in-Filter : goal.returns-in-Filter
 returns-in-Filter c =
