@@ -19,6 +19,7 @@ mod called_function;
 mod edit;
 mod filter_of;
 mod hint;
+mod listed_items;
 mod name_distance;
 mod near_names;
 mod operand_type;
@@ -33,6 +34,7 @@ mod typing_advice;
 mod unknown_enumeration;
 mod unknown_property;
 mod unread_property;
+mod wanted_operands;
 mod words_around;
 
 pub use advised_sentence::{advise, advise_with_edits};

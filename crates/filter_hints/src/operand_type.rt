@@ -83,6 +83,33 @@ fn probed(alloc: Global, filter: &FilterOf<'_>, probe: &Probe) -> Option<EdmType
     }
 }
 
+/// Whether the checker takes `eq` between two nodes of the filter.
+pub fn are_comparable(
+    alloc: Global,
+    filter: &FilterOf<'_>,
+    nodes: &[SyntaxNode],
+    pair: (usize, usize),
+) -> Result<bool, AllocError> {
+    let (Some(left), Some(right)) = (nodes.get(pair.0), nodes.get(pair.1)) else {
+        return Ok(false);
+    };
+    let text = filter.report.text;
+    let equal = Probe {
+        text: format!(in alloc;
+            "({}) eq ({})",
+            part(text, left.span),
+            part(text, right.span)
+        )?,
+        asked: left.span,
+    };
+    let probe = in_scope(alloc, text, nodes, left.span, equal)?;
+    if filter.schema.holds(filter.id) {
+        Ok(check(alloc, filter.schema, filter.id, &probe.text).is_ok())
+    } else {
+        Ok(false)
+    }
+}
+
 /// A comparison of the operand with null.
 fn compared(alloc: Global, operand: &str) -> Result<Probe, AllocError> {
     Ok(Probe {

@@ -2,15 +2,17 @@
 use crate::edit::{Edit, part};
 use crate::filter_of::FilterOf;
 use crate::hint::Hint;
+use crate::listed_items::list_advice;
 use crate::operand_type::{OperandType, operand_type};
 use crate::quoted_value::{SPELLINGS, respelling};
 use crate::syntax_tree::{first_of_two, last_child, next_around};
 use crate::trial::mends;
+use crate::wanted_operands::{Operands, wanted_in_words};
 use odata_syntax::{SyntaxKind, SyntaxNode};
 use odata_text::Span;
 use std::alloc::{AllocError, Global};
 
-/// The edit in another spelling of one literal that mends the filter, if there is one.
+/// The edit in another spelling of a literal that mends the filter, if there is one.
 fn mending_literal(
     alloc: Global,
     filter: &FilterOf<'_>,
@@ -50,7 +52,7 @@ fn part_edited(
 }
 
 /// The types of both operands, in words.
-fn types_in_words(
+pub fn types_in_words(
     alloc: Global,
     left: &Option<OperandType>,
     right: &Option<OperandType>,
@@ -86,7 +88,7 @@ fn literal_in_words(
 }
 
 /// Both sentences with the edits of the second one, or the one there is.
-fn joined(
+pub fn joined(
     alloc: Global,
     first: Option<Hint>,
     second: Option<Hint>,
@@ -121,10 +123,55 @@ fn two_operands(
         Some(mended) => Some(mended),
         None => literal_in_words(alloc, filter, filter.report.span, first)?,
     };
-    joined(alloc, types, mended)
+    let fitting = match mended {
+        Some(mended) => Some(mended),
+        None => {
+            let operands = Operands {
+                left,
+                right,
+                left_type,
+                right_type,
+            };
+            wanted_in_words(alloc, filter, nodes, index, &operands)?
+        }
+    };
+    joined(alloc, types, fitting)
 }
 
-/// Of `not` before an operand that is no truth value: the comparison that begins with it in parentheses.
+/// Of an operator before its one operand: of which type that is, and which is wanted.
+fn one_operand(
+    alloc: Global,
+    filter: &FilterOf<'_>,
+    nodes: &[SyntaxNode],
+    index: usize,
+    wanted: &str,
+) -> Result<Option<Hint>, AllocError> {
+    let Some(operand) = last_child(index) else {
+        return Ok(None);
+    };
+    match operand_type(alloc, filter, nodes, operand)? {
+        Some(found) => {
+            let text = format!(in alloc; "It is of type {}. {wanted}", found.name.as_str())?;
+            Ok(Some(Hint::plain(alloc, text)))
+        }
+        None => Ok(None),
+    }
+}
+
+/// Of `not` before an operand that is no truth value.
+fn not_operand(
+    alloc: Global,
+    filter: &FilterOf<'_>,
+    nodes: &[SyntaxNode],
+    index: usize,
+) -> Result<Option<Hint>, AllocError> {
+    match negated(alloc, filter, nodes, index)? {
+        Some(negated) => Ok(Some(negated)),
+        None => one_operand(alloc, filter, nodes, index, "It has to be a condition."),
+    }
+}
+
+/// The comparison that begins with the operand of `not`, in parentheses, if that mends the filter.
 fn negated(
     alloc: Global,
     filter: &FilterOf<'_>,
@@ -173,7 +220,9 @@ pub fn operand_advice(
         SyntaxKind::Binary(_) | SyntaxKind::Has | SyntaxKind::InPath => {
             two_operands(alloc, filter, nodes, index)
         }
-        SyntaxKind::Not => negated(alloc, filter, nodes, index),
+        SyntaxKind::InList => list_advice(alloc, filter, nodes, index),
+        SyntaxKind::Not => not_operand(alloc, filter, nodes, index),
+        SyntaxKind::Neg => one_operand(alloc, filter, nodes, index, "It has to be a number."),
         _ => Ok(None),
     }
 }

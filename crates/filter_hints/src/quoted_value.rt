@@ -14,15 +14,38 @@ pub enum Spelling {
     Midnight,
     /// A date between quotes, likewise.
     UnquotedMidnight,
+    /// A moment as its date.
+    Day,
+    /// 1 and 0 as truth values.
+    Truth,
 }
 
 /// All of them, the likeliest first.
-pub const SPELLINGS: [Spelling; 4] = [
+pub const SPELLINGS: [Spelling; 6] = [
     Spelling::Unquoted,
     Spelling::Midnight,
     Spelling::UnquotedMidnight,
+    Spelling::Day,
+    Spelling::Truth,
     Spelling::Quoted,
 ];
+
+/// The truth value that a number stands for elsewhere.
+fn truth_value(literal: &str) -> Option<&'static str> {
+    match literal {
+        "1" => Some("true"),
+        "0" => Some("false"),
+        _ => None,
+    }
+}
+
+/// The literal in the same letters.
+fn copied(alloc: Global, literal: Option<&str>) -> Result<Option<String>, AllocError> {
+    match literal {
+        Some(literal) => Ok(Some(String::from_str(alloc, literal)?)),
+        None => Ok(None),
+    }
+}
 
 /// The text of a literal without its quotes.
 fn unquoted(literal: &str) -> Option<&str> {
@@ -37,10 +60,9 @@ fn respelled(
     way: Spelling,
 ) -> Result<Option<String>, AllocError> {
     let text = match (way, kind) {
-        (Spelling::Unquoted, LiteralKind::Str) => match unquoted(literal) {
-            Some(inner) => String::from_str(alloc, inner)?,
-            None => return Ok(None),
-        },
+        (Spelling::Unquoted, LiteralKind::Str) => return copied(alloc, unquoted(literal)),
+        (Spelling::Day, LiteralKind::Moment) => return copied(alloc, literal.get(..10)),
+        (Spelling::Truth, LiteralKind::Int) => return copied(alloc, truth_value(literal)),
         (Spelling::UnquotedMidnight, LiteralKind::Str) => match unquoted(literal) {
             Some(inner) => format!(in alloc; "{inner}T00:00:00Z")?,
             None => return Ok(None),

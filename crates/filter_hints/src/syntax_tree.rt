@@ -18,6 +18,11 @@ pub fn first_of_two(nodes: &[SyntaxNode], index: usize) -> Option<usize> {
     last.place.first.checked_sub(1)
 }
 
+/// The index of the child before another child of the same node.
+pub fn child_before(nodes: &[SyntaxNode], child: usize) -> Option<usize> {
+    nodes.get(child)?.place.first.checked_sub(1)
+}
+
 /// Whether a span lies within another one.
 fn lies_within(inner: Span, outer: Span) -> bool {
     outer.start <= inner.start && inner.stop <= outer.stop

@@ -3,6 +3,7 @@ use crate::advised_sentence::Advice;
 use crate::edit::{Edit, part};
 use crate::filter_of::FilterOf;
 use crate::hint::Hint;
+use crate::listed_items::unfit_item;
 use crate::near_names::NearNames;
 use crate::operand_type::{OperandType, operand_type};
 use crate::syntax_tree::{first_of_two, last_child};
@@ -183,6 +184,22 @@ fn compared(
     })
 }
 
+/// Of the items of a list after `in`.
+fn listed(
+    alloc: Global,
+    filter: &FilterOf<'_>,
+    nodes: &[SyntaxNode],
+    index: usize,
+) -> Result<Advice, AllocError> {
+    let Some((operand, item)) = unfit_item(alloc, filter, nodes, index)? else {
+        return Ok(Advice::None);
+    };
+    Ok(match text_beside(alloc, filter, nodes, (item, operand))? {
+        Some(more) => Advice::After(more),
+        None => Advice::None,
+    })
+}
+
 /// What to say of a literal that has no value in its enumeration.
 pub fn enumeration_advice(
     alloc: Global,
@@ -195,6 +212,7 @@ pub fn enumeration_advice(
             named_literal(alloc, filter, filter.report.span)
         }
         Some(SyntaxKind::Binary(_) | SyntaxKind::Has) => compared(alloc, filter, nodes, index),
+        Some(SyntaxKind::InList) => listed(alloc, filter, nodes, index),
         _ => Ok(Advice::None),
     }
 }

@@ -7,12 +7,15 @@ use crate::hint::Hint;
 use crate::near_names::NearNames;
 use crate::operand_type::{OperandType, operand_type};
 use crate::standard_names::is_unsupported_function;
-use crate::syntax_tree::{lambda_parts, last_child, next_around};
+use crate::syntax_tree::{lambda_parts, last_child, next_around, node_with};
 use crate::trial::mends;
 use csdl_schema::{Schema, TypeId};
 use odata_syntax::{SyntaxKind, SyntaxNode};
 use odata_text::Span;
 use std::alloc::{AllocError, Global};
+
+/// How many paths are looked for beside a name.
+const BESIDE: usize = 4;
 
 /// The names of a type that are near to a mistyped one.
 fn near_properties<'n>(schema: &'n Schema, id: TypeId, name: &'n str) -> NearNames<'n> {
@@ -79,8 +82,53 @@ fn after_a_variable(
     Ok(None)
 }
 
+/// Whether the operator or the call around a name has a path with a type too: a text alone would be compared with
+/// another.
+fn is_beside_a_path(
+    alloc: Global,
+    filter: &FilterOf<'_>,
+    nodes: &[SyntaxNode],
+    span: Span,
+) -> Result<bool, AllocError> {
+    let Some((first, stop)) = node_with(nodes, span).and_then(|name| tree_around(nodes, name))
+    else {
+        return Ok(false);
+    };
+    let mut asked = 0;
+    for index in first..stop {
+        let is_asked = nodes.get(index).map_or(false, |node| is_path(node.kind));
+        if is_asked && asked < BESIDE {
+            asked += 1;
+            if operand_type(alloc, filter, nodes, index)?.is_some() {
+                return Ok(true);
+            }
+        }
+    }
+    Ok(false)
+}
+
+/// Whether a node is a path, or begins one.
+fn is_path(kind: SyntaxKind) -> bool {
+    matches!(kind, SyntaxKind::Name | SyntaxKind::It | SyntaxKind::Member)
+}
+
+/// The indexes of the first node of the tree of the next node around, and of that node.
+fn tree_around(nodes: &[SyntaxNode], index: usize) -> Option<(usize, usize)> {
+    let span = nodes.get(index)?.span;
+    let around = next_around(nodes, index.checked_add(1)?, span)?;
+    Some((nodes.get(around)?.place.first, around))
+}
+
 /// The name as a text, if that mends the filter.
-fn as_a_text(alloc: Global, filter: &FilterOf<'_>, span: Span) -> Result<Option<Edit>, AllocError> {
+fn as_a_text(
+    alloc: Global,
+    filter: &FilterOf<'_>,
+    nodes: &[SyntaxNode],
+    span: Span,
+) -> Result<Option<Edit>, AllocError> {
+    if !is_beside_a_path(alloc, filter, nodes, span)? {
+        return Ok(None);
+    }
     let text = format!(in alloc; "'{}'", part(filter.report.text, span))?;
     mended(alloc, filter, Edit { span, text })
 }
@@ -100,7 +148,7 @@ fn first_name(
     if let Some(question) = near_in_words(alloc, &near, span)? {
         return Ok(Some(question));
     }
-    let Some(quoted) = as_a_text(alloc, filter, span)? else {
+    let Some(quoted) = as_a_text(alloc, filter, nodes, span)? else {
         return Ok(None);
     };
     let words = format!(in alloc;
@@ -111,7 +159,7 @@ fn first_name(
 }
 
 /// A step over a collection: a lambda expression in place of the path, if that mends the filter.
-fn over_members(
+pub fn over_members(
     alloc: Global,
     filter: &FilterOf<'_>,
     base: Span,
