@@ -1,5 +1,5 @@
 -- Nodes that have a fault, and children of a node one after another.
-use Rattle.std.proofs.Common.{◌≡◌, ◌∙◌, ap, ◌<◌, ◌≤◌, ◌+◌, ◌⊎◌, ℕ, List, [], ◌∷◌, true, false, Option, Some, None, Result, below_more, inl, inr, length, refl, slice_get, subst, sym, arith}
+use Rattle.std.proofs.Common.{◌≡◌, ◌∙◌, ap, ◌<◌, ◌≤◌, ◌+◌, ◌⊎◌, ℕ, List, [], ◌∷◌, true, false, Some, None, Result, below_more, inl, inr, length, slice_get, sym, arith}
 use Rattle.std.specs.Prelude.{IsSomeAnd}
 use Rattle.edm_values.specs.MomentParts.{MomentParts}
 use Rattle.edm_values.specs.declared.datum.Datum.{Datum}

@@ -80,7 +80,8 @@ HasFault row moment list index false = (found : Option Datum) × ReportsNode row
 pub record IsFirstFault (row : Row) (moment : MomentParts) (list : FlatTree) (index child : ℕ) : Type 0 where
   pub after : index < child
   pub before_end : IsSomeAnd (slice_get list.nodes index) (λ found. child < found.stop)
-  pub apart : (k : ℕ) → IsChildOf list index k → k < child → IsSomeAnd (slice_get list.nodes k) (λ found. found.stop ≤ child)
+  pub apart : (k : ℕ) → IsChildOf list index k → k < child
+      → IsSomeAnd (slice_get list.nodes k) (λ found. found.stop ≤ child)
   pub faulty : HasFault row moment list child true
   pub earlier : (k : ℕ) → IsChildOf list index k → k < child → HasFault row moment list k false
 

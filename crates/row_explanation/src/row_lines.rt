@@ -98,8 +98,9 @@ fn lines_of(alloc: Global, evaluation: &Evaluation<'_, '_, '_>) -> Result<String
 ///
 /// The lines are those of `Checked::explain`. After each stands ` = ` and the value of its node, or its fault; after
 /// the node where evaluation stops also `, where evaluation stops`; and ` left out` after a node that is not evaluated,
-/// as [`report_of`] reports it. Control characters stand by their numbers, as `\u000a`. Nodes in the body of a lambda operator have no value of their own. It has no clause:
-/// these calls promise what is reported of each node.
+/// as [`report_of`] reports it. Control characters stand by their numbers, as `\u000a`. Nodes in the body of a lambda
+/// operator have no value of their own. It has no clause: [`stop_index`] and [`report_of`] promise what is reported of
+/// each node.
 pub fn explain_row(
     alloc: Global,
     filter: &Checked<'_>,

@@ -1,4 +1,4 @@
-use Rattle.std.proofs.Common.{◌≡◌, ◌<◌, ◌≤◌, ◌+◌, Bool, List, ap, arith, false, inl, inr, length, refl, subst, true}
+use Rattle.std.proofs.Common.{Bool, List, ap, arith, false, inl, inr, length, subst, true}
 use Rattle.odata_checked_filter.specs.declared.checked_node.CheckedNode.{CheckedNode}
 use Rattle.row_explanation.specs.NodeReports.{HasFault}
 use Rattle.row_explanation.proofs.Faults.{first_fault, none_asked, none_at_first, none_passed, none_to_end, none_to_stop, still_passed, stop_by_asked, stop_by_first, stop_by_passed}

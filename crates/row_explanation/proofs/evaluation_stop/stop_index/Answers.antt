@@ -1,4 +1,4 @@
-use Rattle.std.proofs.Common.{◌≡◌, ◌<◌, ◌+◌, ℕ, Bool, Option, [], arith, length, refl, subst, true}
+use Rattle.std.proofs.Common.{◌<◌, ℕ, Bool, Option, [], arith, length, refl, subst}
 use Rattle.row_explanation.specs.NodeReports.{HasFault, IsFaultBelow, IsFirstFault}
 use Rattle.row_explanation.proofs.Faults.{comes_further, faulty_within}
 use Rattle.row_explanation.proofs.evaluation_stop.stop_index.Goals as goal
