@@ -1,3 +1,4 @@
+use crate::faulty_row::FaultyRow;
 use command_plan::command_line::Plan;
 use odata_filter::{Failure, Part, RunFault};
 
@@ -10,11 +11,22 @@ pub struct FailedRun<'r, 'p, 'l> {
     /// The bytes of the schema file.
     pub document: &'r [u8],
     pub failure: &'r Failure<'p>,
-    /// The line of the row at fault if it is at hand, or the first bytes of rows that are no collection or no lines.
+    /// The row at fault if it is available, or the first bytes of rows that are no collection.
     pub row: Option<&'l [u8]>,
 }
 
 impl<'r> FailedRun<'r, '_, '_> {
+    /// The row at fault, if one is.
+    pub(crate) fn faulty_row(&self) -> Option<FaultyRow<'_>> {
+        Some(FaultyRow {
+            file: self.plan.rows,
+            part: self.part,
+            is_entity: self.plan.collection,
+            number: self.line()?,
+            text: self.row,
+        })
+    }
+
     /// The number of the row or line at fault, if one is.
     pub(crate) fn line(&self) -> Option<u64> {
         match self.failure {

@@ -1,28 +1,20 @@
 use crate::failed_run::FailedRun;
 use crate::file_form::form_advice;
+use crate::filtered_type::FilteredType;
 use crate::json_place::{JsonPlace, json_place};
 use crate::marked_text::marked_text;
 use crate::near_types::type_advice;
 use crate::reported_fault::{ReportedFault, reported_fault};
-use crate::row_hints::row_advice;
-use csdl_schema::{Schema, SchemaFault, TypeId};
+use crate::row_hints::{row_advice, rows_form};
+use csdl_schema::SchemaFault;
 use fault_json::{LocatedFault, fault_json};
 use fault_sentences::{FaultClass, Report, fault_sentence};
 use filter_hints::{FilterOf, advise};
-use odata_filter::Failure;
+use odata_filter::{Failure, RunFault};
 use std::alloc::{AllocError, Global};
 
-/// The schema of a run and the type that it names, if there are both.
-fn filtered(alloc: Global, run: &FailedRun<'_, '_, '_>) -> Option<(Schema, TypeId)> {
-    let Ok(schema) = Schema::read(alloc, run.document) else {
-        return None;
-    };
-    let id = schema.type_named(run.plan.named)?;
-    Some((schema, id))
-}
-
 /// Both texts with a space between them, or the first alone.
-fn with_more(alloc: Global, text: String, more: Option<String>) -> Result<String, AllocError> {
+pub fn with_more(alloc: Global, text: String, more: Option<String>) -> Result<String, AllocError> {
     match more {
         Some(more) => Ok(format!(in alloc; "{} {}", text.as_str(), more.as_str())?),
         None => Ok(text),
@@ -32,16 +24,16 @@ fn with_more(alloc: Global, text: String, more: Option<String>) -> Result<String
 /// A sentence, and the filter with carets under its fault.
 fn filter_hints(
     alloc: Global,
-    known: &Option<(Schema, TypeId)>,
+    known: &Option<FilteredType>,
     fault: &ReportedFault,
 ) -> Result<Option<String>, AllocError> {
-    let Some((schema, id)) = known else {
+    let Some(known) = known else {
         return Ok(None);
     };
-    let report = fault.report(schema.type_name(*id));
+    let report = fault.report(known.schema.type_name(known.id));
     let filter = FilterOf {
-        schema,
-        id: *id,
+        schema: &known.schema,
+        id: known.id,
         report: &report,
     };
     let Some(sentence) = advise(alloc, &filter)? else {
@@ -51,14 +43,27 @@ fn filter_hints(
     Ok(Some(format!(in alloc; "{}\n{}", sentence.as_str(), marked.as_str())?))
 }
 
-/// A query without a filter: what follows a `?` may have been meant.
+/// Of a query without a filter: what follows a `?` may have been meant, or a filter that is no query.
 fn hints_without_filter(alloc: Global, query: &str) -> Result<Option<String>, AllocError> {
-    if query.contains('?') {
-        let text = "The query has no $filter. Give what follows the '?' of the URL alone.";
-        Ok(Some(String::from_str(alloc, text)?))
+    let text = if query.contains('?') {
+        "The query has no $filter. Give what follows the '?' of the URL alone."
+    } else if query.contains('=') {
+        "The query has no $filter."
     } else {
-        Ok(None)
-    }
+        "The query has no $filter. Give a filter that is no query by --filter."
+    };
+    Ok(Some(String::from_str(alloc, text)?))
+}
+
+/// Of a file or a stream.
+fn device_hints(alloc: Global, failure: &Failure<'_>) -> Result<Option<String>, AllocError> {
+    let text = match failure {
+        Failure::RowsFile(_) => "The file cannot be opened or read.",
+        Failure::Rows(RunFault::Read { .. }) => "The rows cannot be read on from there.",
+        Failure::Rows(RunFault::Write) => "Standard output cannot be written.",
+        _ => return Ok(None),
+    };
+    Ok(Some(String::from_str(alloc, text)?))
 }
 
 /// What to say after the sentence about a schema that is no JSON.
@@ -78,6 +83,24 @@ fn json_advice(alloc: Global, document: &[u8]) -> Result<Option<String>, AllocEr
     }
 }
 
+/// What to say after the sentence about rows, or a row of them.
+fn rows_advice(
+    alloc: Global,
+    run: &FailedRun<'_, '_, '_>,
+    report: &Report<'_>,
+) -> Result<Option<String>, AllocError> {
+    match run.faulty_row() {
+        Some(row) => {
+            let known = FilteredType::read(alloc, run.document, run.plan.named);
+            Ok(Some(row_advice(alloc, &row, known.as_ref(), report)?))
+        }
+        None => match rows_form(run.row) {
+            Some(form) => Ok(Some(String::from_str(alloc, form)?)),
+            None => Ok(None),
+        },
+    }
+}
+
 /// What the command line, its schema and its rows show beyond the sentence.
 fn known_beyond(
     alloc: Global,
@@ -91,7 +114,7 @@ fn known_beyond(
             alloc,
             "Give it as --now 2020-01-01T00:00:00Z.",
         )?)),
-        Failure::Rows(_) => row_advice(alloc, run, report),
+        Failure::Rows(_) => rows_advice(alloc, run, report),
         _ => Ok(None),
     }
 }
@@ -111,19 +134,23 @@ fn plain_hints(
     }
 }
 
-/// Returns why a run failed. It is a sentence, and of a filter its text with carets under the fault. `None` of a failure
-/// of a device or of memory, and where there is no more to say than the line does. The last line has no line feed. It
-/// has no clause: sentences are tested.
+/// Returns why a run failed. It is a sentence, and of a filter its text with carets under the fault. `None` if an
+/// allocation failed, and where there is no more to say than the line does. The last line has no line feed. It has no
+/// clause: sentences are tested.
 pub fn failure_hints(
     alloc: Global,
     run: &FailedRun<'_, '_, '_>,
 ) -> Result<Option<String>, AllocError> {
     let Some(fault) = reported_fault(alloc, run)? else {
-        return Ok(None);
+        return device_hints(alloc, run.failure);
     };
     match run.failure {
         Failure::NoOption => hints_without_filter(alloc, run.plan.query.unwrap_or("")),
-        Failure::Refused(_) => filter_hints(alloc, &filtered(alloc, run), &fault),
+        Failure::Refused(_) => filter_hints(
+            alloc,
+            &FilteredType::read(alloc, run.document, run.plan.named),
+            &fault,
+        ),
         _ => plain_hints(alloc, run, &fault),
     }
 }
@@ -143,12 +170,11 @@ fn line_and_column(alloc: Global, run: &FailedRun<'_, '_, '_>) -> (Option<u64>, 
 fn refused_json(
     alloc: Global,
     fault: &ReportedFault,
-    schema: &Schema,
-    id: TypeId,
+    known: &FilteredType,
 ) -> Result<Option<String>, AllocError> {
     let located = LocatedFault {
-        report: fault.report(schema.type_name(id)),
-        filtered: Some((schema, id)),
+        report: fault.report(known.schema.type_name(known.id)),
+        filtered: Some((&known.schema, known.id)),
         file: None,
         line: None,
         column: None,
@@ -183,8 +209,8 @@ pub fn failure_json(
         return Ok(None);
     };
     match run.failure {
-        Failure::Refused(_) => match &filtered(alloc, run) {
-            Some((schema, id)) => refused_json(alloc, &fault, schema, *id),
+        Failure::Refused(_) => match &FilteredType::read(alloc, run.document, run.plan.named) {
+            Some(known) => refused_json(alloc, &fault, known),
             None => plain_json(alloc, run, &fault),
         },
         _ => plain_json(alloc, run, &fault),

@@ -1,69 +1,57 @@
 //! What to say of a row at fault beyond the sentence: its line, the value found, the type wanted.
-use crate::failed_run::FailedRun;
+use crate::faulty_row::FaultyRow;
 use crate::file_form::form_advice;
+use crate::filtered_type::FilteredType;
 use crate::json_place::{JsonPlace, json_place};
 use crate::row_value::{shown_value, wanted_type};
-use csdl_schema::Schema;
 use fault_sentences::{FaultClass, Report};
 use std::alloc::{AllocError, Global};
 
 /// Which row it is.
-fn row_in_words(
-    alloc: Global,
-    run: &FailedRun<'_, '_, '_>,
-    line: u64,
-) -> Result<String, AllocError> {
-    let what = if run.plan.collection {
-        "entity"
-    } else {
-        "line"
-    };
-    match (run.plan.rows, run.part) {
+fn row_in_words(alloc: Global, row: &FaultyRow<'_>) -> Result<String, AllocError> {
+    let what = if row.is_entity { "entity" } else { "line" };
+    let number = row.number;
+    match (row.file, row.part) {
         (Some(file), Some(part)) => Ok(format!(in alloc;
-            "{what} {line} of part {}/{} of {file}",
+            "{what} {number} of part {}/{} of {file}",
             part.number, part.count
         )?),
-        (Some(file), None) => Ok(format!(in alloc; "{what} {line} of {file}")?),
-        (None, _) => Ok(format!(in alloc; "{what} {line} of standard input")?),
+        (Some(file), None) => Ok(format!(in alloc; "{what} {number} of {file}")?),
+        (None, _) => Ok(format!(in alloc; "{what} {number} of standard input")?),
     }
 }
 
-/// The value that the row has at the path, if the row is at hand.
+/// The value that a row has at a path, if the row is available.
 fn found_value(
     alloc: Global,
-    run: &FailedRun<'_, '_, '_>,
+    row: &FaultyRow<'_>,
     path: &str,
 ) -> Result<Option<String>, AllocError> {
-    match run.row {
-        Some(row) => shown_value(alloc, row, path),
+    match row.text {
+        Some(text) => shown_value(alloc, text, path),
         None => Ok(None),
     }
 }
 
-/// The type that is wanted at the path.
+/// The type that is wanted at a path.
 fn type_at(
     alloc: Global,
-    run: &FailedRun<'_, '_, '_>,
+    known: Option<&FilteredType>,
     path: &str,
 ) -> Result<Option<String>, AllocError> {
-    let Ok(schema) = Schema::read(alloc, run.document) else {
-        return Ok(None);
-    };
-    match schema.type_named(run.plan.named) {
-        Some(id) => wanted_type(alloc, &schema, id, path),
+    match known {
+        Some(known) => wanted_type(alloc, &known.schema, known.id, path),
         None => Ok(None),
     }
 }
 
-/// Of a value at a path.
+/// Of a row, what is found where what is wanted.
 fn value_advice(
     alloc: Global,
-    run: &FailedRun<'_, '_, '_>,
-    path: &str,
     row: &str,
+    found: Option<String>,
+    wanted: Option<String>,
 ) -> Result<String, AllocError> {
-    let found = found_value(alloc, run, path)?;
-    let wanted = type_at(alloc, run, path)?;
     match (found, wanted) {
         (Some(found), Some(wanted)) => Ok(format!(in alloc;
             "In {row} there is {} where {} is wanted.",
@@ -90,29 +78,9 @@ fn line_advice(alloc: Global, line: &[u8]) -> Result<String, AllocError> {
     }
 }
 
-/// What the first bytes of the rows show, if these are at hand.
-fn rows_form(run: &FailedRun<'_, '_, '_>) -> Option<&'static str> {
-    form_advice(run.row?)
-}
-
-/// Of rows that are no collection.
-fn collection_advice(
-    alloc: Global,
-    run: &FailedRun<'_, '_, '_>,
-) -> Result<Option<String>, AllocError> {
-    match rows_form(run) {
-        Some(form) => Ok(Some(String::from_str(alloc, form)?)),
-        None => Ok(None),
-    }
-}
-
 /// Of a line that is no JSON.
-fn json_advice(
-    alloc: Global,
-    run: &FailedRun<'_, '_, '_>,
-    row: &str,
-) -> Result<String, AllocError> {
-    match run.row {
+fn json_advice(alloc: Global, row: &str, text: Option<&[u8]>) -> Result<String, AllocError> {
+    match text {
         Some(line) => {
             let more = line_advice(alloc, line)?;
             Ok(format!(in alloc; "The row is {row}.{}", more.as_str())?)
@@ -121,22 +89,29 @@ fn json_advice(
     }
 }
 
+/// What the bytes of rows show, if these are available.
+pub fn rows_form(rows: Option<&[u8]>) -> Option<&'static str> {
+    form_advice(rows?)
+}
+
 /// What to say after the sentence about a row.
 pub fn row_advice(
     alloc: Global,
-    run: &FailedRun<'_, '_, '_>,
+    row: &FaultyRow<'_>,
+    known: Option<&FilteredType>,
     report: &Report<'_>,
-) -> Result<Option<String>, AllocError> {
-    let Some(line) = run.line() else {
-        return collection_advice(alloc, run);
-    };
-    let row = row_in_words(alloc, run, line)?;
+) -> Result<String, AllocError> {
+    let words = row_in_words(alloc, row)?;
     match report.class {
-        FaultClass::Row => Ok(Some(value_advice(alloc, run, report.text, row.as_str())?)),
-        FaultClass::Json => Ok(Some(json_advice(alloc, run, row.as_str())?)),
-        _ => Ok(Some(match rows_form(run) {
-            Some(form) => format!(in alloc; "The row is {}. {form}", row.as_str())?,
-            None => format!(in alloc; "The row is {}.", row.as_str())?,
-        })),
+        FaultClass::Row => {
+            let found = found_value(alloc, row, report.text)?;
+            let wanted = type_at(alloc, known, report.text)?;
+            value_advice(alloc, words.as_str(), found, wanted)
+        }
+        FaultClass::Json => json_advice(alloc, words.as_str(), row.text),
+        _ => match rows_form(row.text) {
+            Some(form) => Ok(format!(in alloc; "The row is {}. {form}", words.as_str())?),
+            None => Ok(format!(in alloc; "The row is {}.", words.as_str())?),
+        },
     }
 }

@@ -1,4 +1,8 @@
 //! The fault of a row that a run passes over.
+use crate::failure_report::with_more;
+use crate::faulty_row::FaultyRow;
+use crate::filtered_type::FilteredType;
+use crate::row_hints::row_advice;
 use fault_json::{LocatedFault, fault_json};
 use fault_sentences::{FaultClass, Report, fault_sentence};
 use odata_filter::{BadRow, FaultKind, Numbered, fault_name, row_fault_path};
@@ -41,10 +45,23 @@ pub fn bad_row_name(fault: &BadRow) -> &'static str {
     found.unwrap_or("")
 }
 
-/// Returns the sentence about a row's fault, without a line feed. `None` if an allocation failed when the row was judged.
-/// It has no clause: sentences are tested.
-pub fn bad_row_sentence(alloc: Global, fault: &BadRow) -> Result<Option<String>, AllocError> {
-    fault_sentence(alloc, &report_of(fault))
+/// Returns what [`failure_hints`](crate::failure_hints) says of a row's fault, without a line feed.
+///
+/// `None` if an allocation failed when the row was judged. It has no clause: sentences are tested.
+pub fn bad_row_sentence(
+    alloc: Global,
+    fault: &BadRow,
+    row: &FaultyRow<'_>,
+    known: Option<&FilteredType>,
+) -> Result<Option<String>, AllocError> {
+    let report = report_of(fault);
+    match fault_sentence(alloc, &report)? {
+        Some(sentence) => {
+            let more = row_advice(alloc, row, known, &report)?;
+            Ok(Some(with_more(alloc, sentence, Some(more))?))
+        }
+        None => Ok(None),
+    }
 }
 
 /// Returns the JSON object of a row's fault, without a line feed. `None` if an allocation failed when the row was

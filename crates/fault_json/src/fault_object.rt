@@ -2,7 +2,7 @@ ghost use Rattle.std.specs.Prelude.{◌≡◌, IfOk, is_some};
 ghost use Rattle.fault_sentences.specs.Numbers.{is_known};
 
 use crate::class_names::{class_name, name_of};
-use crate::located_fault::LocatedFault;
+use crate::located_fault::{AbsentRow, LocatedFault};
 use crate::utf16_span::utf16_span;
 use fault_sentences::{FaultClass, Report, fault_sentence};
 use filter_hints::{Edit, FilterOf, Hint, advise_with_edits};
@@ -182,5 +182,45 @@ pub fn fault_json(
     match hint_of(alloc, fault)? {
         Some(hint) => Ok(Some(object_text(alloc, fault, &hint)?)),
         None => Ok(None),
+    }
+}
+
+/// The object of an absent row with that sentence.
+fn absent_object<'h, 'f>(
+    alloc: Global,
+    row: &AbsentRow<'f>,
+    sentence: &'h str,
+) -> FaultObject<'h, 'h, 'f> {
+    FaultObject {
+        class: "no_row",
+        code: 0,
+        name: "NoRow",
+        text: None,
+        span: None,
+        utf16_span: None,
+        sentence,
+        suggestions: Vec::new(alloc),
+        names: Vec::new(alloc),
+        number: None,
+        path: None,
+        file: row.file,
+        line: Some(row.line),
+        column: None,
+    }
+}
+
+/// Returns the sentence about a row that its input does not have. It has no clause: sentences are tested.
+pub fn no_row_sentence(alloc: Global, row: &AbsentRow<'_>) -> Result<String, AllocError> {
+    Ok(format!(in alloc; "The number of lines is {}.", row.lines)?)
+}
+
+/// Returns a row that its input does not have as one JSON object, without a line feed.
+///
+/// The object has the members of that of [`fault_json`]. It has no clause: what the object says is tested.
+pub fn no_row_json(alloc: Global, row: &AbsentRow<'_>) -> Result<String, AllocError> {
+    let sentence = no_row_sentence(alloc, row)?;
+    match to_string(alloc, &absent_object(alloc, row, sentence.as_str())) {
+        Ok(text) => Ok(text),
+        Err(_) => Err(AllocError),
     }
 }

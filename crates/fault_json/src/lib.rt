@@ -20,5 +20,5 @@ mod fault_object;
 mod located_fault;
 mod utf16_span;
 
-pub use fault_object::fault_json;
-pub use located_fault::LocatedFault;
+pub use fault_object::{fault_json, no_row_json, no_row_sentence};
+pub use located_fault::{AbsentRow, LocatedFault};

@@ -14,3 +14,14 @@ pub struct LocatedFault<'t, 's, 'f> {
     /// The byte of that line, from 1.
     pub column: Option<u64>,
 }
+
+/// A row that its input does not have.
+#[derive(Clone, Copy)]
+pub struct AbsentRow<'f> {
+    /// The file of the rows; none of standard input.
+    pub file: Option<&'f str>,
+    /// The number that was asked for, from 1.
+    pub line: u64,
+    /// How many lines there are.
+    pub lines: u64,
+}

@@ -3,8 +3,11 @@ use crate::fault_lines::{report, report_memory};
 use crate::line_prefix::LinePrefix;
 use crate::plan_run::{plan_over, rows_of};
 use crate::progress::Progress;
+use crate::recent_rows::Keeping;
+use crate::reports::are_hints_wanted;
 use crate::row_faults::RowFaults;
 use crate::run_end::report_end;
+use command_hints::FilteredType;
 use odata_filter::command_line::{Format, Plan, RunRequest};
 use odata_filter::{Tally, run_past_faults};
 
@@ -25,7 +28,9 @@ fn count_file<'r>(
 ) -> u8 {
     counted.faults.file = plan.rows;
     counted.faults.prefix = LinePrefix::of(request, plan);
-    let Ok(rows) = rows_of(rt, plan, request.part, counted.faults.progress) else {
+    let progress = counted.faults.progress;
+    progress.recent.begin(Keeping::Lines);
+    let Ok(rows) = rows_of(rt, plan, request.part, progress) else {
         return report_memory(rt);
     };
     let mut out = rt.stdout();
@@ -42,7 +47,7 @@ fn count_file<'r>(
             counted.tally.kept = counted.tally.kept.saturating_add(tally.kept);
             0
         }
-        Err(failure) => report_end(rt, request, plan, document, failure),
+        Err(failure) => report_end(progress, request, plan, document, failure),
     }
 }
 
@@ -118,6 +123,15 @@ fn write_counts(rt: &HostRuntime, request: &RunRequest<'_>, counted: &Counted<'_
     };
 }
 
+/// The type of the rows, if a person hears of those that are passed over.
+fn known_type(rt: &HostRuntime, request: &RunRequest<'_>, document: &[u8]) -> Option<FilteredType> {
+    if request.skip_faulty && are_hints_wanted(rt, request.hints) {
+        FilteredType::read(rt.alloc(), document, request.plan.named)
+    } else {
+        None
+    }
+}
+
 /// Carries out a plan whose rows are counted, or of which those at fault are passed over. Returns the exit status: 4 if
 /// any was.
 #[inline(never)]
@@ -127,8 +141,9 @@ pub fn count_rows<'r>(
     document: &[u8],
     progress: &Progress<'r>,
 ) -> u8 {
+    let known = known_type(rt, request, document);
     let mut counted = Counted {
-        faults: RowFaults::none(request, progress),
+        faults: RowFaults::none(request, known.as_ref(), progress),
         tally: Tally { rows: 0, kept: 0 },
     };
     let status = count_files(rt, request, document, &mut counted);

@@ -1,14 +1,19 @@
 //! One row explained: what each node of the filter evaluates to.
 use crate::fault_lines::{report, report_memory};
-use crate::plan_run::plan_over;
-use crate::reports::write_object;
+use crate::numbered_line::{FoundLine, numbered_line};
+use crate::plan_run::{plan_over, source_of};
+use crate::progress::Progress;
+use crate::recent_rows::Keeping;
+use crate::reports::{are_hints_wanted, write_object};
 use crate::run_end::report_end;
-use command_hints::{accepted_json, explained_row, explains_rows};
+use crate::streams::NotedRows;
+use command_hints::{
+    AbsentRow, accepted_json, explained_row, explains_rows, no_row_json, no_row_sentence,
+};
 use odata_filter::command_line::{Format, Plan, RunRequest, Verb};
-use odata_filter::{Failure, LineFault, LineReader, RunFault};
-use std::alloc::{AllocError, Global};
-use std::fs::File;
-use std::io::Read;
+use odata_filter::{Failure, RunFault};
+use std::alloc::AllocError;
+use std::io::ErrorKind;
 
 /// Whether a row is to be explained, and not the filter alone.
 pub fn explains_row(request: &RunRequest<'_>) -> bool {
@@ -30,57 +35,47 @@ fn row_number(request: &RunRequest<'_>) -> Option<u64> {
     }
 }
 
-/// Why a line could not be read.
-fn line_fault(line: u64, fault: LineFault) -> RunFault {
-    match fault {
-        LineFault::TooLong => RunFault::LineTooLong { line },
-        LineFault::Read => RunFault::Read { line },
-        LineFault::Memory => RunFault::Memory { line },
-    }
-}
-
-/// A copy of the line of that number, if there are so many. Its readers are of other types than that of a run, whose
-/// loop over lines calls `next_line` alone and so has it inlined.
-fn line_in<R: Read + Drop>(
-    alloc: Global,
-    reader: R,
-    number: u64,
-) -> Result<Option<Vec<u8>>, RunFault> {
-    let mut lines = LineReader::new(alloc, reader);
-    for line in 1..number {
-        match lines.next_line() {
-            Ok(Some(_)) => {}
-            Ok(None) => return Ok(None),
-            Err(fault) => return Err(line_fault(line, fault)),
-        }
-    }
-    let mut copy = Vec::new(alloc);
-    match lines.next_line() {
-        Ok(Some(row)) => match copy.extend_from_slice(row) {
-            Ok(()) => Ok(Some(copy)),
-            Err(_) => Err(RunFault::Memory { line: number }),
-        },
-        Ok(None) => Ok(None),
-        Err(fault) => Err(line_fault(number, fault)),
-    }
-}
-
-/// A copy of the line of that number among the rows that the plan names, if there are so many.
+/// The line of that number among the rows that the plan names.
 fn row_of<'p>(
-    rt: &HostRuntime,
+    progress: &Progress<'_>,
     plan: &Plan<'p>,
     number: u64,
-) -> Result<Option<Vec<u8>>, Failure<'p>> {
-    let found = match plan.rows {
-        Some(name) => match File::open(rt, name) {
-            Ok(file) => line_in(rt.alloc(), file, number),
-            Err(_) => return Err(Failure::RowsFile(name)),
-        },
-        None => line_in(rt.alloc(), rt.stdin(), number),
+) -> Result<FoundLine, Failure<'p>> {
+    let rt = progress.rt;
+    progress.recent.begin(Keeping::Lines);
+    let source = match source_of(rt, plan, None) {
+        Ok(source) => source,
+        Err(error) if error.kind() == ErrorKind::OutOfMemory => {
+            return Err(Failure::Rows(RunFault::Memory { line: 0 }));
+        }
+        Err(_) => return Err(Failure::RowsFile(plan.rows.unwrap_or("rows"))),
     };
-    match found {
-        Ok(row) => Ok(row),
+    let rows = NotedRows {
+        source,
+        recent: &progress.recent,
+    };
+    match numbered_line(rt.alloc(), rows, number) {
+        Ok(found) => Ok(found),
         Err(fault) => Err(Failure::Rows(fault)),
+    }
+}
+
+/// Reports that there are not so many rows, and to a person how many lines there are. Returns the exit status.
+fn report_no_row(rt: &HostRuntime, request: &RunRequest<'_>, row: &AbsentRow<'_>) -> u8 {
+    let said = match request.format {
+        Format::Json => no_row_json(rt.alloc(), row),
+        Format::Text => {
+            let number = row.line;
+            let status = report(rt, format_args!("row {number} NoRow"), 4);
+            if !are_hints_wanted(rt, request.hints) {
+                return status;
+            }
+            no_row_sentence(rt.alloc(), row)
+        }
+    };
+    match said {
+        Ok(said) => report(rt, said.as_str(), 4),
+        Err(AllocError) => report_memory(rt),
     }
 }
 
@@ -107,33 +102,46 @@ fn write_lines(
 
 /// Explains the row of that number. Returns the exit status; `None` where the filter is not accepted.
 fn explain_line<'p>(
-    rt: &HostRuntime,
     request: &RunRequest<'_>,
     plan: &Plan<'p>,
     document: &[u8],
+    progress: &Progress<'_>,
 ) -> Option<u8> {
+    let rt = progress.rt;
     let Some(number) = row_number(request) else {
         return Some(report(rt, "usage row is not a number from 1", 2));
     };
-    let row = match row_of(rt, plan, number) {
-        Ok(Some(row)) => row,
-        Ok(None) => return Some(report(rt, format_args!("row {number} NoRow"), 4)),
-        Err(failure) => return Some(report_end(rt, request, plan, document, failure)),
+    let row = match row_of(progress, plan, number) {
+        Ok(FoundLine::Line(row)) => row,
+        Ok(FoundLine::Lines(lines)) => {
+            let row = AbsentRow {
+                file: plan.rows,
+                line: number,
+                lines,
+            };
+            return Some(report_no_row(rt, request, &row));
+        }
+        Err(failure) => return Some(report_end(progress, request, plan, document, failure)),
     };
     match explained_row(rt.alloc(), plan, document, number, row.as_slice()) {
         Ok(Some(lines)) => Some(write_lines(rt, request, plan, document, lines.as_str())),
         Ok(None) => None,
-        Err(failure) => Some(report_end(rt, request, plan, document, failure)),
+        Err(failure) => Some(report_end(progress, request, plan, document, failure)),
     }
 }
 
 /// Explains a row of the plan's file by its filter. Returns the exit status; `None` where the moment is none or the
 /// filter is not accepted, before any row is read: a run without rows reports that.
 #[inline(never)]
-pub fn explain_one(rt: &HostRuntime, request: &RunRequest<'_>, document: &[u8]) -> Option<u8> {
+pub fn explain_one(
+    request: &RunRequest<'_>,
+    document: &[u8],
+    progress: &Progress<'_>,
+) -> Option<u8> {
+    let rt = progress.rt;
     let plan = plan_over(&request.plan, request.plan.rows.unwrap_or("-"));
     match explains_rows(rt.alloc(), &plan, document) {
-        Ok(true) => explain_line(rt, request, &plan, document),
+        Ok(true) => explain_line(request, &plan, document, progress),
         Ok(false) => None,
         Err(AllocError) => Some(report_memory(rt)),
     }

@@ -1,6 +1,7 @@
 //! Runs over a collection whose kept entities are written, a line each.
 use crate::plan_run::rows_of;
 use crate::progress::Progress;
+use crate::recent_rows::Keeping;
 use crate::row_faults::RowFaults;
 use crate::run_end::report_end;
 use crate::streams::{Rows, Source};
@@ -18,6 +19,7 @@ fn run_over<'p, W: Write>(
     rows: Source,
     out: &mut W,
 ) -> Result<(), Failure<'p>> {
+    faults.progress.recent.begin(Keeping::Lines);
     let rows = Rows {
         source: rows,
         progress: faults.progress,
@@ -31,6 +33,7 @@ fn run_over<'p, W: Write>(
 /// All the bytes of the rows. A file is reported by its name, and standard input reports line 0.
 fn whole_rows<'p>(faults: &RowFaults<'_, '_>, plan: &Plan<'p>) -> Result<Vec<u8>, Failure<'p>> {
     let rt = faults.rt;
+    faults.progress.recent.begin(Keeping::Document);
     let mut rows = match rows_of(rt, plan, None, faults.progress) {
         Ok(Some(rows)) => rows,
         Ok(None) => return Err(Failure::RowsFile(plan.rows.unwrap_or("rows"))),
@@ -78,17 +81,16 @@ fn write_kept<'p>(
 /// Carries out a plan of a collection whose kept entities are written. Returns the exit status.
 #[inline(never)]
 pub fn write_entities(
-    rt: &HostRuntime,
     request: &RunRequest<'_>,
     plan: &Plan<'_>,
     document: &[u8],
     progress: &Progress<'_>,
 ) -> u8 {
-    let mut faults = RowFaults::none(request, progress);
+    let mut faults = RowFaults::none(request, None, progress);
     let ended = write_kept(&mut faults, plan, document);
     progress.clear();
     match ended {
         Ok(()) => 0,
-        Err(failure) => report_end(rt, request, plan, document, failure),
+        Err(failure) => report_end(progress, request, plan, document, failure),
     }
 }

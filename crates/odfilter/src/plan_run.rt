@@ -1,11 +1,12 @@
 //! A plan carried out, over the files that it names.
 use crate::counted_run::count_rows;
 use crate::explain_run::{explain_one, explains_row};
-use crate::fault_lines::{report, report_memory};
+use crate::fault_lines::report_memory;
 use crate::items_run::write_entities;
 use crate::line_prefix::LinePrefix;
 use crate::progress::Progress;
-use crate::reports::{PlanRun, report_as_json, report_hints};
+use crate::recent_rows::Keeping;
+use crate::reports::{PlanRun, report_as_json, report_hints, report_unread, report_warnings};
 use crate::streams::{Faults, Rows, Source, Written};
 use odata_filter::command_line::{Format, Plan, RunRequest, Verb};
 use odata_filter::{Part, ReadAllError, part_of, read_whole, run_to_failure};
@@ -108,6 +109,11 @@ fn carry_out_over(
         progress,
         written: faults_of(rt, request, plan),
     };
+    progress.recent.begin(if plan.collection {
+        Keeping::Document
+    } else {
+        Keeping::Lines
+    });
     let Ok(rows) = rows_of(rt, plan, request.part, progress) else {
         return report_memory(rt);
     };
@@ -117,6 +123,7 @@ fn carry_out_over(
         plan,
         part: request.part,
         document,
+        recent: &progress.recent,
         ended: &ended,
     };
     match request.format {
@@ -137,7 +144,7 @@ fn carry_out_one(
     progress: &Progress<'_>,
 ) -> u8 {
     if request.items {
-        write_entities(rt, request, plan, document, progress)
+        write_entities(request, plan, document, progress)
     } else {
         carry_out_over(rt, request, plan, document, progress)
     }
@@ -145,12 +152,12 @@ fn carry_out_one(
 
 /// Carries the plan out over each file of rows, up to the first that fails.
 fn carry_out_each<'r>(rt: &'r HostRuntime, request: &RunRequest<'r>, document: &[u8]) -> u8 {
+    let progress = Progress::begin(rt, request);
     if explains_row(request) {
-        if let Some(status) = explain_one(rt, request, document) {
+        if let Some(status) = explain_one(request, document, &progress) {
             return status;
         }
     }
-    let progress = Progress::begin(rt);
     if request.count || request.skip_faulty {
         return count_rows(rt, request, document, &progress);
     }
@@ -172,8 +179,11 @@ fn carry_out_each<'r>(rt: &'r HostRuntime, request: &RunRequest<'r>, document: &
 pub fn carry_out(rt: &HostRuntime, request: &RunRequest<'_>) -> u8 {
     let name = request.plan.schema;
     match schema_bytes(rt, name) {
-        Ok(document) => carry_out_each(rt, request, document.as_slice()),
+        Ok(document) => {
+            let status = carry_out_each(rt, request, document.as_slice());
+            report_warnings(rt, request, document.as_slice(), status)
+        }
         Err(ReadAllError::Memory) => report_memory(rt),
-        Err(ReadAllError::Read) => report(rt, format_args!("read {name}"), 5),
+        Err(ReadAllError::Read) => report_unread(rt, request.hints, name),
     }
 }

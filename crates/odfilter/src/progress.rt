@@ -1,4 +1,7 @@
 //! How far a run over rows has come, said at a terminal.
+use crate::recent_rows::{RecentRows, line_feeds};
+use crate::reports::says_why;
+use odata_filter::command_line::RunRequest;
 use std::cell::Cell;
 use std::io::{IsTerminal, Write};
 use std::time::Instant;
@@ -15,35 +18,30 @@ pub struct Progress<'r> {
     pub rt: &'r HostRuntime,
     /// When the run began, if its progress is said: standard error is a terminal, and standard output is none.
     begun: Option<Instant>,
+    /// Whether rows are lines, which can be counted as they come.
+    has_lines: bool,
     rows: Cell<u64>,
     bytes: Cell<u64>,
     /// When the last line was written, in milliseconds after the beginning; 0 before the first.
     last: Cell<u128>,
     is_shown: Cell<bool>,
-}
-
-/// How many line feeds there are.
-fn line_feeds(bytes: &[u8]) -> u64 {
-    let mut count = 0u64;
-    for byte in bytes {
-        if *byte == b'\n' {
-            count = count.saturating_add(1);
-        }
-    }
-    count
+    /// What it has read last, if a person hears of rows at fault.
+    pub recent: RecentRows,
 }
 
 impl<'r> Progress<'r> {
     /// Of a run that begins.
-    pub fn begin(rt: &'r HostRuntime) -> Progress<'r> {
+    pub fn begin(rt: &'r HostRuntime, request: &RunRequest<'_>) -> Progress<'r> {
         let is_said = rt.stderr().is_terminal() && !rt.stdout().is_terminal();
         Progress {
             rt,
             begun: if is_said { Instant::now(rt).ok() } else { None },
+            has_lines: !request.plan.collection,
             rows: Cell::new(0),
             bytes: Cell::new(0),
             last: Cell::new(0),
             is_shown: Cell::new(false),
+            recent: RecentRows::new(rt.alloc(), says_why(rt, request)),
         }
     }
 
@@ -52,10 +50,14 @@ impl<'r> Progress<'r> {
         let (rows, bytes) = (self.rows.get(), self.bytes.get());
         let megabytes = bytes / 1_000_000;
         let rate = u128::from(bytes) / lasted.max(1) / 1_000;
-        let _ = write!(
-            self.rt.stderr(),
-            "\r{rows} rows, {megabytes} MB, {rate} MB/s\x1b[K"
-        );
+        let _ = if self.has_lines {
+            write!(
+                self.rt.stderr(),
+                "\r{rows} rows, {megabytes} MB, {rate} MB/s\x1b[K"
+            )
+        } else {
+            write!(self.rt.stderr(), "\r{megabytes} MB, {rate} MB/s\x1b[K")
+        };
         self.last.set(lasted);
         self.is_shown.set(true);
     }

@@ -1,15 +1,11 @@
 //! What is said of a run beside its lines: to a person, and as JSON to a program.
 use crate::fault_lines::{report, report_memory};
-use crate::plan_run::source_of;
-use command_hints::{FailedRun, accepted_json, failure_hints, failure_json};
-use odata_filter::command_line::{Hints, Plan, Verb};
-use odata_filter::{Ended, Failure, LineReader, Part, RunFault, read_whole};
+use crate::recent_rows::RecentRows;
+use command_hints::{FailedRun, accepted_json, failure_hints, failure_json, type_warnings};
+use odata_filter::command_line::{Format, Hints, Plan, RunRequest, Verb};
+use odata_filter::{Ended, Failure, Part, RunFault};
 use std::alloc::AllocError;
-use std::fs::File;
-use std::io::{IsTerminal, Read};
-
-/// So many bytes of a file show what it is.
-const FIRST_BYTES: u64 = 512;
+use std::io::IsTerminal;
 
 /// A plan that was carried out over one file of rows or a part of it, and how that ended.
 #[derive(Clone, Copy)]
@@ -17,6 +13,8 @@ pub struct PlanRun<'r, 'p> {
     pub plan: &'r Plan<'p>,
     pub part: Option<Part>,
     pub document: &'r [u8],
+    /// What it has read last: nothing where it reads no rows.
+    pub recent: &'r RecentRows,
     pub ended: &'r Ended<'p>,
 }
 
@@ -29,46 +27,28 @@ pub fn are_hints_wanted(rt: &HostRuntime, hints: Hints) -> bool {
     }
 }
 
-/// A copy of the line of that number of the rows, if their file still has it.
-fn line_of(rt: &HostRuntime, run: &PlanRun<'_, '_>, line: u64) -> Option<Vec<u8>> {
-    let source = source_of(rt, run.plan, run.part).ok()?;
-    let mut lines = LineReader::new(rt.alloc(), source);
-    for _ in 1..line {
-        let _ = lines.next_line().ok()??;
+/// Whether sentences for people follow the lines of a run.
+pub fn says_why(rt: &HostRuntime, request: &RunRequest<'_>) -> bool {
+    match request.format {
+        Format::Text => are_hints_wanted(rt, request.hints),
+        Format::Json => false,
     }
-    let mut copy = Vec::new(rt.alloc());
-    copy.extend_from_slice(lines.next_line().ok()??).ok()?;
-    Some(copy)
 }
 
-/// A copy of the first bytes of a file of rows.
-fn first_bytes(rt: &HostRuntime, name: &str) -> Option<Vec<u8>> {
-    let file = File::open(rt, name).ok()?;
-    read_whole(rt.alloc(), &mut file.take(FIRST_BYTES)).ok()
-}
-
-/// A copy of the line of the row at fault, or of the first bytes of rows that are no collection or no lines, if these
-/// stand in a file.
-fn faulty_row(rt: &HostRuntime, run: &PlanRun<'_, '_>, failure: &Failure<'_>) -> Option<Vec<u8>> {
-    let name = run.plan.rows?;
+/// A copy of the row at fault, or of rows that are no collection, if these are available.
+fn faulty_row(run: &PlanRun<'_, '_>, failure: &Failure<'_>) -> Option<Vec<u8>> {
     match failure {
-        Failure::Rows(RunFault::Row { line, .. } | RunFault::Json { line }) => {
-            if run.plan.collection {
-                None
-            } else {
-                line_of(rt, run, *line)
-            }
-        }
-        Failure::Rows(RunFault::NotACollection | RunFault::LineTooLong { .. }) => {
-            first_bytes(rt, name)
-        }
+        Failure::Rows(
+            RunFault::Row { line, .. } | RunFault::Json { line } | RunFault::LineTooLong { line },
+        ) => run.recent.row(*line),
+        Failure::Rows(RunFault::NotACollection) => Some(run.recent.taken()),
         _ => None,
     }
 }
 
 /// Says to a person why a run failed. A program reads the line that the run has written alone.
 fn say_why<'r, 'p>(rt: &HostRuntime, run: &PlanRun<'r, 'p>, failure: &'r Failure<'p>) {
-    let row = faulty_row(rt, run, failure);
+    let row = faulty_row(run, failure);
     let failed = FailedRun {
         plan: run.plan,
         part: run.part,
@@ -93,6 +73,34 @@ pub fn report_hints(rt: &HostRuntime, hints: Hints, run: &PlanRun<'_, '_>) {
             say_why(rt, run, failure);
         },
         None => {}
+    }
+}
+
+/// Says to a person which properties have a type that is none, after a run whose filter was accepted. Returns its status.
+#[inline(never)]
+pub fn report_warnings(
+    rt: &HostRuntime,
+    request: &RunRequest<'_>,
+    document: &[u8],
+    status: u8,
+) -> u8 {
+    if !matches!(status, 0 | 4) || !says_why(rt, request) {
+        return status;
+    }
+    match type_warnings(rt.alloc(), &request.plan, document) {
+        Ok(Some(lines)) => report(rt, lines.as_str(), status),
+        Ok(None) => status,
+        Err(_) => status,
+    }
+}
+
+/// Reports that the schema file cannot be read, and says so to a person. Returns the exit status.
+pub fn report_unread(rt: &HostRuntime, hints: Hints, name: &str) -> u8 {
+    let status = report(rt, format_args!("read {name}"), 5);
+    if are_hints_wanted(rt, hints) {
+        report(rt, "The file cannot be opened or read.", status)
+    } else {
+        status
     }
 }
 

@@ -3,9 +3,9 @@ use crate::fault_lines::report;
 use crate::line_prefix::LinePrefix;
 use crate::progress::Progress;
 use crate::reports::are_hints_wanted;
-use command_hints::{bad_row_json, bad_row_name, bad_row_sentence};
+use command_hints::{FaultyRow, FilteredType, bad_row_json, bad_row_name, bad_row_sentence};
 use odata_filter::command_line::{Format, RunRequest};
-use odata_filter::{BadRow, TakesFaults};
+use odata_filter::{BadRow, Part, TakesFaults};
 use std::alloc::AllocError;
 
 /// The faults of rows so far.
@@ -17,8 +17,12 @@ pub struct RowFaults<'p, 'r> {
     pub is_passing: bool,
     /// Whether a sentence follows each line.
     pub says_why: bool,
-    /// The file that is read, of several or for an object.
+    /// The file that is read; none of standard input.
     pub file: Option<&'r str>,
+    /// The part of it that is read, if not all of it.
+    part: Option<Part>,
+    /// The type of the rows, if a person hears of those at fault.
+    known: Option<&'p FilteredType>,
     /// What stands before each line.
     pub prefix: LinePrefix<'r>,
     pub progress: &'p Progress<'r>,
@@ -28,13 +32,19 @@ pub struct RowFaults<'p, 'r> {
 
 impl<'p, 'r> RowFaults<'p, 'r> {
     /// None so far. Those of rows that are at fault are passed over, or end the run.
-    pub fn none(request: &RunRequest<'_>, progress: &'p Progress<'r>) -> RowFaults<'p, 'r> {
+    pub fn none(
+        request: &RunRequest<'_>,
+        known: Option<&'p FilteredType>,
+        progress: &'p Progress<'r>,
+    ) -> RowFaults<'p, 'r> {
         RowFaults {
             rt: progress.rt,
             format: request.format,
             is_passing: request.skip_faulty,
             says_why: are_hints_wanted(progress.rt, request.hints),
             file: None,
+            part: request.part,
+            known,
             prefix: LinePrefix::Nothing,
             progress,
             counts: Vec::new(progress.rt.alloc()),
@@ -77,8 +87,16 @@ impl<'p, 'r> RowFaults<'p, 'r> {
     }
 
     /// Says to a person why a row is at fault, if there is memory for it.
-    fn say_why(&self, fault: &BadRow) {
-        match bad_row_sentence(self.rt.alloc(), fault) {
+    fn say_why(&self, number: u64, fault: &BadRow) {
+        let text = self.progress.recent.row(number);
+        let row = FaultyRow {
+            file: self.file,
+            part: self.part,
+            is_entity: false,
+            number,
+            text: text.as_deref(),
+        };
+        match bad_row_sentence(self.rt.alloc(), fault, &row, self.known) {
             Ok(Some(sentence)) => {
                 let _ = report(self.rt, sentence.as_str(), 4);
             }
@@ -97,7 +115,7 @@ impl<'p, 'r> RowFaults<'p, 'r> {
             None => {
                 self.write_line(number, fault);
                 if self.says_why {
-                    self.say_why(fault);
+                    self.say_why(number, fault);
                 }
             }
         }

@@ -1,5 +1,6 @@
 //! How a run ended that does not report its failure itself.
 use crate::plan_run::faults_of;
+use crate::progress::Progress;
 use crate::reports::{PlanRun, report_as_json, report_hints};
 use odata_filter::command_line::{Format, Plan, RunRequest};
 use odata_filter::{Ended, Failure, report_failure};
@@ -7,12 +8,13 @@ use odata_filter::{Ended, Failure, report_failure};
 /// Reports a failure, and returns the status.
 #[inline(never)]
 pub fn report_end<'p>(
-    rt: &HostRuntime,
+    progress: &Progress<'_>,
     request: &RunRequest<'_>,
     plan: &Plan<'p>,
     document: &[u8],
     failure: Failure<'p>,
 ) -> u8 {
+    let rt = progress.rt;
     let status = failure.status();
     let ended = Ended {
         status,
@@ -22,6 +24,7 @@ pub fn report_end<'p>(
         plan,
         part: request.part,
         document,
+        recent: &progress.recent,
         ended: &ended,
     };
     match request.format {

@@ -1,6 +1,7 @@
 //! The streams of a run.
 use crate::line_prefix::LinePrefix;
 use crate::progress::Progress;
+use crate::recent_rows::RecentRows;
 use odata_filter::PartReader;
 use std::fs::File;
 use std::io;
@@ -36,9 +37,26 @@ pub struct Rows<'p, 'r> {
 impl Read for Rows<'_, '_> {
     fn read(&mut self, bytes: &mut [u8]) -> io::Result<usize> {
         let count = self.source.read(bytes)?;
+        let read = bytes.get(..count).unwrap_or(&[]);
+        self.progress.recent.note(read);
         if !matches!(&self.source, Source::Held(_)) {
-            self.progress.read(bytes.get(..count).unwrap_or(&[]));
+            self.progress.read(read);
         }
+        Ok(count)
+    }
+}
+
+/// Rows of which one line is looked for, and what was read of them last.
+#[derive(Drop)]
+pub struct NotedRows<'p> {
+    pub source: Source,
+    pub recent: &'p RecentRows,
+}
+
+impl Read for NotedRows<'_> {
+    fn read(&mut self, bytes: &mut [u8]) -> io::Result<usize> {
+        let count = self.source.read(bytes)?;
+        self.recent.note(bytes.get(..count).unwrap_or(&[]));
         Ok(count)
     }
 }

@@ -1,7 +1,8 @@
 //! The types of a schema, listed.
 use crate::fault_lines::{report, report_memory};
 use crate::plan_run::schema_bytes;
-use crate::reports::{PlanRun, report_as_json, report_hints};
+use crate::recent_rows::RecentRows;
+use crate::reports::{PlanRun, report_as_json, report_hints, report_unread};
 use odata_filter::command_line::{Format, Plan, TypesRequest, Verb};
 use odata_filter::{Ended, Failure, ReadAllError};
 use std::alloc::AllocError;
@@ -46,11 +47,11 @@ fn write_types(rt: &HostRuntime, listing: &TypeListing, format: Format) -> u8 {
 }
 
 /// Reports why a document has no listing, and returns the status.
-fn report_schema_fault(
+fn report_schema_fault<'p>(
     rt: &HostRuntime,
-    request: &TypesRequest<'_>,
+    request: &TypesRequest<'p>,
     document: &[u8],
-    failure: Failure<'_>,
+    failure: Failure<'p>,
 ) -> u8 {
     let status = failure.status();
     let plan = Plan {
@@ -67,10 +68,12 @@ fn report_schema_fault(
         status,
         failure: Some(failure),
     };
+    let recent = RecentRows::new(rt.alloc(), false);
     let run = PlanRun {
         plan: &plan,
         part: None,
         document,
+        recent: &recent,
         ended: &ended,
     };
     match (request.format, &ended.failure) {
@@ -89,7 +92,7 @@ pub fn list_types(rt: &HostRuntime, request: &TypesRequest<'_>) -> u8 {
     let document = match schema_bytes(rt, request.schema) {
         Ok(document) => document,
         Err(ReadAllError::Memory) => return report_memory(rt),
-        Err(ReadAllError::Read) => return report(rt, format_args!("read {}", request.schema), 5),
+        Err(ReadAllError::Read) => return report_unread(rt, request.hints, request.schema),
     };
     match TypeListing::read(rt.alloc(), document.as_slice()) {
         Ok(listing) => write_types(rt, &listing, request.format),
