@@ -63,6 +63,15 @@ class Function:
         """Whether a goal of its proof is its own: in a cycle of several functions a goal begins with one's name."""
         return not self.beside or f"::{self.name}".endswith(f"::{goal.partition('-')[0]}")
 
+    def has_part(self, name):
+        """Whether what a file of proofs has under a name is its own, in a cycle of several functions."""
+        return self.has_goal(name.removeprefix("decreases-"))
+
+
+def home_of(functions):
+    """The words that the paths of functions have in common, but for their own names."""
+    return os.path.commonprefix([it.name.split("::")[:-1] for it in functions])
+
 
 def module_of(path):
     inner = path.removeprefix("src/").removesuffix(".rt").removesuffix("/mod")
@@ -233,6 +242,40 @@ class Sources:
         folders = [*other.proof_folders(), *(os.path.dirname(it) for it in self.proofs if other.is_answer(it))]
         below = [f"proofs/{it}/" for it in self.proofs_below([function])]
         return any(it.startswith(f"{folder}/") for it in below for folder in folders)
+
+    def cycles(self):
+        """The functions of each cycle of several."""
+        found = {it.cycle: [it, *it.beside] for path in self.texts for it in self.functions[path] if it.beside}
+        return [*found.values()]
+
+    def called_by(self, function):
+        """The other functions of its cycle that a function calls."""
+        body = self.body_text(function)
+        return [it for it in function.beside if re.search(rf"\b{it.short}(?:::<|\()", body)]
+
+    def way(self, start, end):
+        """The shortest way by calls from a function of a cycle to one of it, which may be itself: each on it calls the
+        next."""
+        ways, seen = [[start]], set()
+        for way in ways:
+            for called in self.called_by(way[-1]):
+                if called is end:
+                    return [*way, end]
+                if called.key() not in seen:
+                    seen.add(called.key())
+                    ways.append([*way, called])
+        return [start, *start.beside]
+
+    def ring(self, functions):
+        """Functions of one cycle with some of the others, which are a cycle by themselves: as few as the shortest ways
+        between one of them and the rest allow. Or all, where these few would have their proof in another folder."""
+        rings = []
+        for first in functions:
+            rest = [it for it in functions if it is not first] or [first]
+            ways = [way for it in rest for way in (self.way(first, it), self.way(it, first))]
+            rings.append({it.key(): it for way in ways for it in way})
+        ring, all_of_it = min(rings, key=len).values(), [functions[0], *functions[0].beside]
+        return [*ring] if home_of(ring) == home_of(all_of_it) else all_of_it
 
     def body_text(self, function):
         return "\n".join(self.texts[function.path].split("\n")[function.body[0] - 1 : function.body[1]])

@@ -1,14 +1,20 @@
 """Stand-ins: functions that no edit of a check changes, each as a call of itself under its own contract.
 
-A function is proved by the contracts of what it calls. So whether an edit of it is refused has nothing to do with the
-bodies of its callees, which `rt ci` proves. As calls of themselves, with a hole for their proof, they cost a check
-little. A function stands as it is where this would not do: one of a trait, of a cycle or of tests, one that is computed
-for a constant, one whose parameters are patterns or have its name, and one whose proof a proof in the check names.
+A function is proved by the contracts of what it calls, and by what lemmas state. So whether an edit of it is refused
+has nothing to do with the bodies of its callees, nor with the proofs of lemmas, all of which `rt ci` proves. As calls
+of themselves, with a hole for their proof, they cost a check little, and so do lemmas with holes. A function stands as
+it is where this would not do: one of a trait or of tests, one that is computed for a constant, one whose parameters are
+patterns or have its name, and one whose proof a proof in the check names.
+
+Of a cycle as few functions stand as they are as are a cycle with those that are edited, and the answers and measures of
+these alone: what these call of the others is outside their cycle then, so that nothing is asked of its measure. An edit
+that only breaks a measure there is not refused so, and is tried with all as it is.
 """
 import os
 import re
 
-from .sources import BLOCK, PARTS, listed, parameters_of
+from .lemmas import unfolded_in, with_holes
+from .sources import BLOCK, HEAD, PARTS, listed, parameters_of
 
 PARAMETER = re.compile(r"(?:mut )?(?!_:)(\w+): ")
 RECEIVER = re.compile(r"(?:&(?:'\w+ )?)?(?:mut )?self\b")
@@ -48,7 +54,10 @@ def call_of(lines, function):
     before, _, after = header.partition(f"fn {function.short}")
     block = block_above(lines, function.lines[0] + before.count("\n"))
     is_of_trait = block and (block[0] == "trait" or " for " in parameters_of(block[1])[1])
-    if function.cycle or is_of_trait or re.search(r"#\[cfg\b|\bconst $|\bextern ", before):
+    if is_of_trait or re.search(r"#\[cfg\b|\bconst $|\bextern ", before):
+        return None
+    # the derived methods of types are in its cycle
+    if function.cycle and not function.beside:
         return None
     types, rest = parameters_of(after)
     given = listed(parenthesized(rest.strip()))
@@ -66,24 +75,54 @@ class StandIns:
 
     def __init__(self, name, sources, functions):
         self.name, self.sources = name, sources
-        self.whole = {it.key() for function in functions for it in (function, *function.beside)}
-        self.named = sources.proofs_below(functions)
+        self.named = sources.proofs_below([one for it in functions for one in (it, *it.beside)])
+        self.whole = {it.key() for it in functions}
+        for cycle in sources.cycles():
+            self.whole.update(it.key() for it in self.whole_of(cycle))
+
+    def whole_of(self, cycle):
+        """The functions of a cycle that stand as they are: with those that are edited a ring of it, or all of it where
+        one of the others has no stand-in."""
+        edited = [it for it in cycle if it.key() in self.whole]
+        ring = self.sources.ring(edited) if edited else []
+        return ring if all(it in ring or self.call(self.sources.texts, it) for it in cycle) else cycle
+
+    def call(self, texts, function):
+        """What stands for a function's body, or `None` where it stands as it is."""
+        is_whole = function.key() in self.whole or self.is_named(function)
+        return None if is_whole else call_of(texts[function.path].split("\n"), function)
 
     def texts(self, texts):
         """The texts of the crate with stand-ins, and those of the proofs: none where a file goes."""
-        made = {}
+        made, gone = {}, []
         for path, text in texts.items():
             lines = text.split("\n")
             for function in reversed(self.sources.functions[path]):
-                call = None if function.key() in self.whole or self.is_named(function) else call_of(lines, function)
-                if call and function.body[1] - function.body[0] > 1:
+                call = self.call(texts, function)
+                if call and (function.beside or function.body[1] - function.body[0] > 1):
                     self.replace(lines, function, call)
                     made.update(self.proof(function))
+                    gone += [function] * bool(function.beside)
             made[path] = "\n".join(lines)
-        return made
+        return {**self.lemmas(), **made, **dict(self.proofs_without(gone))}
+
+    def lemmas(self):
+        """The files of lemmas, with holes for their proofs."""
+        unfolded = unfolded_in(self.sources.proofs.values())
+        files = {path: text for path, text in self.sources.proofs.items() if os.path.basename(path) not in PARTS}
+        return {path: with_holes(text, unfolded) for path, text in files.items()}
 
     def is_named(self, function):
         return any(f"proofs/{it}/".startswith(f"{folder}/") for it in self.named for folder in function.proof_folders())
+
+    def proofs_without(self, gone):
+        """The proofs of cycles without what they have of functions that are not in them any more."""
+        for path, text in self.sources.proofs.items():
+            without = [it for it in gone if it.is_answer(path)]
+            if without:
+                parts = [(HEAD.search(it), it) for it in text.split("\n\n")]
+                left = [it for head, it in parts if not head or not any(one.has_part(head[1]) for one in without)]
+                yield path, None if len(without) > len(without[0].beside) else "\n\n".join(left)
 
     @staticmethod
     def replace(lines, function, call):
@@ -92,7 +131,7 @@ class StandIns:
         indent = " " * (len(lines[last - 1]) - len(lines[last - 1].lstrip()))
         lines[first : last - 1] = [f"{indent}    {call}", *[""] * (last - first - 2)]
         for at in range(function.lines[0] - 1, first):
-            if lines[at].lstrip().startswith("#[tactic"):
+            if lines[at].lstrip().startswith(("#[tactic", "#[cycle")):
                 lines[at] = ""
 
     def proof(self, function):
