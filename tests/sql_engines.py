@@ -1,5 +1,5 @@
 """The two engines that tests/sql asks: PostgreSQL on a socket of its own in a folder of its own, and SQLite in memory.
-How PostgreSQL plans and evaluates is as it comes; who asks much turns `jit` off in the session, as docs/SQL.md says.
+How PostgreSQL plans and evaluates is as it comes; who asks much of many rows turns `jit` off, as docs/SQL.md says.
 
 Each answers `rows(text, parameters)`, a list of tuples of numbers, texts and None, and `joined(expression, source,
 parameters)`, the values of an expression on the rows of a table that are numbers, in the order of the rows and between
@@ -132,7 +132,7 @@ class Postgres(Connection):
         """A connection for a process of its own, to tables of its own."""
         half = Connection(self.room)
         half.rows(f"CREATE SCHEMA IF NOT EXISTS half{number}")
-        half.rows(f"SET search_path = half{number}; SET jit = off")
+        half.rows(f"SET search_path = half{number}")
         return half
 
     def close(self):
