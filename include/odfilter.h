@@ -456,8 +456,8 @@ uint32_t odfilter_fault_name(uint32_t status, uint32_t fault, odfilter_buffer te
  * wrote, and `text` is what the fault is about: the filter's text (of odfilter_check_url, as that wrote it), the query,
  * the path of a row's fault as odfilter_path writes it, the names of a schema's fault as odfilter_read_schema writes
  * them, the name of a type that is unknown, or the text that is no moment; the sentences about other faults need none.
- * `type` is the type that the filter was checked for, which the sentence names; it may be NULL. The sentence is in English and may change from version to
- * version; programs go by `status` and `fault`.
+ * `type` is the type that the filter was checked for, which the sentence names; it may be NULL. The sentence is in
+ * English and may change from version to version; programs go by `status` and `fault`.
  *
  * ODFILTER_OK: `length` bytes have been written. ODFILTER_TOO_SMALL: `length` are needed. ODFILTER_UNKNOWN_NUMBER:
  * there is no such fault. ODFILTER_NULL: an address other than `type` is. ODFILTER_OTHER_KIND: `type` is not a type.

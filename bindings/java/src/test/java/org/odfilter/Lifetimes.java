@@ -112,7 +112,7 @@ final class Lifetimes {
         long before = settled();
         calls(50_000);
         long after = settled();
-        that("a million calls", after < before + (40 << 20), before + " bytes became " + after);
+        that("a million calls", after < before + (64 << 20), before + " bytes became " + after);
         System.out.println("figure: " + ((after - before) >> 10) + " KiB more after a million calls");
     }
 
