@@ -9,14 +9,14 @@ use Rattle.odfilter_c.specs.declared.c_types.Buffer.{Buffer}
 use Rattle.report_calls.specs.Sentences.{ReportsSentenceFor, ReportsSentence}
 
 -- what `odfilter_fault_json` borrows: a handle, bytes, a buffer, a fault's answer and the answer
-abbrev pub borrowed_by_fault_json : Loan → Ptr → Bytes → Buffer → Ptr → Ptr → Fml
+unfoldable pub borrowed_by_fault_json : Loan → Ptr → Bytes → Buffer → Ptr → Ptr → Fml
 borrowed_by_fault_json l given text object fault answer =
     fsep (borrowed_handle l given) (fsep (borrowed_bytes l text) (fsep (borrowed_buffer l object)
     (fsep (borrowed_fault l fault) (borrowed_answer l answer))))
 
 -- what it leaves: all unchanged and the status 1 where an address other than the type's is null, else what
 -- `ReportsSentence` says, or with a type `ReportsSentenceFor`
-abbrev pub left_by_fault_json : Loan → Ptr → ℕ → Bytes → Buffer → Ptr → Ptr → ℕ → Fml
+unfoldable pub left_by_fault_json : Loan → Ptr → ℕ → Bytes → Buffer → Ptr → Ptr → ℕ → Fml
 left_by_fault_json l given status text object fault answer result = unless_null (fault ∷ answer ∷ [])
     (fsep (feq ℕ result 1) (borrowed_by_fault_json l given text object fault answer))
     (fex (List ℕ) (λ object'. fex Answer (λ answer'.

@@ -15,13 +15,13 @@ use Rattle.handle_calls.specs.Costs.{ReportsNodeCount, ReportsLambdaDepth, Repor
 use Rattle.report_calls.specs.Sentences.{ReportsSentenceFor, ReportsSentence}
 
 -- what `odfilter_check_url` borrows: a handle, bytes, a buffer, the new handle's variable and the answer
-abbrev pub borrowed_by_check_url : Loan → Ptr → Bytes → Buffer → Ptr → Ptr → Fml
+unfoldable pub borrowed_by_check_url : Loan → Ptr → Bytes → Buffer → Ptr → Ptr → Fml
 borrowed_by_check_url l given query text made answer =
     fsep (borrowed_handle l given) (fsep (borrowed_bytes l query) (fsep (borrowed_buffer l text)
     (fsep (borrowed_made l made) (borrowed_answer l answer))))
 
 -- what it leaves: all unchanged and the status 1 where an address may not be null and is, else what `ChecksUrl` says
-abbrev pub left_by_check_url : Loan → Ptr → Bytes → Buffer → Ptr → Ptr → ℕ → Fml
+unfoldable pub left_by_check_url : Loan → Ptr → Bytes → Buffer → Ptr → Ptr → ℕ → Fml
 left_by_check_url l given query text made answer result = unless_null (given ∷ made ∷ answer ∷ [])
     (fsep (feq ℕ result 1) (borrowed_by_check_url l given query text made answer))
     (fex (List ℕ) (λ text'. fex Owned (λ made'. fex Answer (λ answer'.
@@ -33,12 +33,12 @@ left_by_check_url l given query text made answer result = unless_null (given ∷
     (λ bytes. ChecksUrl l.handle bytes old new made' answer' result))))))))))
 
 -- what `odfilter_sql` borrows: a handle, bytes, a buffer and the answer
-abbrev pub borrowed_by_sql : Loan → Ptr → Bytes → Buffer → Ptr → Fml
+unfoldable pub borrowed_by_sql : Loan → Ptr → Bytes → Buffer → Ptr → Fml
 borrowed_by_sql l filter how text answer =
     fsep (borrowed_handle l filter) (fsep (borrowed_bytes l how) (fsep (borrowed_buffer l text) (borrowed_answer l answer)))
 
 -- what it leaves: all unchanged and the status 1 where an address may not be null and is, else what `ReportsSql` says
-abbrev pub left_by_sql : Loan → Ptr → ℕ → Bytes → Buffer → Ptr → ℕ → Fml
+unfoldable pub left_by_sql : Loan → Ptr → ℕ → Bytes → Buffer → Ptr → ℕ → Fml
 left_by_sql l filter form how text answer result = unless_null (filter ∷ answer ∷ [])
     (fsep (feq ℕ result 1) (borrowed_by_sql l filter how text answer))
     (fex (List ℕ) (λ text'. fex Answer (λ answer'.
@@ -49,12 +49,12 @@ left_by_sql l filter form how text answer result = unless_null (filter ∷ answe
     (λ bytes. ReportsSql l.handle form bytes old new answer' result))))))))
 
 -- what `odfilter_canonical` borrows: a handle, a buffer and the answer
-abbrev pub borrowed_by_canonical : Loan → Ptr → Buffer → Ptr → Fml
+unfoldable pub borrowed_by_canonical : Loan → Ptr → Buffer → Ptr → Fml
 borrowed_by_canonical l filter text answer = fsep (borrowed_handle l filter) (fsep (borrowed_buffer l text) (borrowed_answer l answer))
 
 -- what it leaves: all unchanged and the status 1 where an address may not be null and is, else what `ReportsCanonical`
 -- says
-abbrev pub left_by_canonical : Loan → Ptr → Buffer → Ptr → ℕ → Fml
+unfoldable pub left_by_canonical : Loan → Ptr → Buffer → Ptr → ℕ → Fml
 left_by_canonical l filter text answer result = unless_null (filter ∷ answer ∷ [])
     (fsep (feq ℕ result 1) (borrowed_by_canonical l filter text answer))
     (fex (List ℕ) (λ text'. fex Answer (λ answer'.
@@ -63,11 +63,11 @@ left_by_canonical l filter text answer result = unless_null (filter ∷ answer �
     (λ old new. ReportsCanonical l.handle old new answer' result)))))))
 
 -- what `odfilter_explain` borrows: a handle, a buffer and the answer
-abbrev pub borrowed_by_explain : Loan → Ptr → Buffer → Ptr → Fml
+unfoldable pub borrowed_by_explain : Loan → Ptr → Buffer → Ptr → Fml
 borrowed_by_explain l filter text answer = fsep (borrowed_handle l filter) (fsep (borrowed_buffer l text) (borrowed_answer l answer))
 
 -- what it leaves: all unchanged and the status 1 where an address may not be null and is, else what `ReportsNodes` says
-abbrev pub left_by_explain : Loan → Ptr → Buffer → Ptr → ℕ → Fml
+unfoldable pub left_by_explain : Loan → Ptr → Buffer → Ptr → ℕ → Fml
 left_by_explain l filter text answer result = unless_null (filter ∷ answer ∷ [])
     (fsep (feq ℕ result 1) (borrowed_by_explain l filter text answer))
     (fex (List ℕ) (λ text'. fex Answer (λ answer'.
@@ -76,36 +76,36 @@ left_by_explain l filter text answer result = unless_null (filter ∷ answer ∷
     (λ old new. ReportsNodes l.handle old new answer' result)))))))
 
 -- what `odfilter_node_count` borrows: a handle and the answer
-abbrev pub borrowed_by_node_count : Loan → Ptr → Ptr → Fml
+unfoldable pub borrowed_by_node_count : Loan → Ptr → Ptr → Fml
 borrowed_by_node_count l filter answer = fsep (borrowed_handle l filter) (borrowed_answer l answer)
 
 -- what it leaves: all unchanged and the status 1 where an address may not be null and is, else what `ReportsNodeCount`
 -- says
-abbrev pub left_by_node_count : Loan → Ptr → Ptr → ℕ → Fml
+unfoldable pub left_by_node_count : Loan → Ptr → Ptr → ℕ → Fml
 left_by_node_count l filter answer result = unless_null (filter ∷ answer ∷ [])
     (fsep (feq ℕ result 1) (borrowed_by_node_count l filter answer))
     (fex Answer (λ answer'.
     fsep (left_answer l answer answer') (holds (ReportsNodeCount l.handle answer' result))))
 
 -- what `odfilter_lambda_depth` borrows: a handle and the answer
-abbrev pub borrowed_by_lambda_depth : Loan → Ptr → Ptr → Fml
+unfoldable pub borrowed_by_lambda_depth : Loan → Ptr → Ptr → Fml
 borrowed_by_lambda_depth l filter answer = fsep (borrowed_handle l filter) (borrowed_answer l answer)
 
 -- what it leaves: all unchanged and the status 1 where an address may not be null and is, else what
 -- `ReportsLambdaDepth` says
-abbrev pub left_by_lambda_depth : Loan → Ptr → Ptr → ℕ → Fml
+unfoldable pub left_by_lambda_depth : Loan → Ptr → Ptr → ℕ → Fml
 left_by_lambda_depth l filter answer result = unless_null (filter ∷ answer ∷ [])
     (fsep (feq ℕ result 1) (borrowed_by_lambda_depth l filter answer))
     (fex Answer (λ answer'.
     fsep (left_answer l answer answer') (holds (ReportsLambdaDepth l.handle answer' result))))
 
 -- what `odfilter_property_paths` borrows: a handle, a buffer and the answer
-abbrev pub borrowed_by_property_paths : Loan → Ptr → Buffer → Ptr → Fml
+unfoldable pub borrowed_by_property_paths : Loan → Ptr → Buffer → Ptr → Fml
 borrowed_by_property_paths l filter paths answer =
     fsep (borrowed_handle l filter) (fsep (borrowed_buffer l paths) (borrowed_answer l answer))
 
 -- what it leaves: all unchanged and the status 1 where an address may not be null and is, else what `ReportsPaths` says
-abbrev pub left_by_property_paths : Loan → Ptr → Buffer → Ptr → ℕ → Fml
+unfoldable pub left_by_property_paths : Loan → Ptr → Buffer → Ptr → ℕ → Fml
 left_by_property_paths l filter paths answer result = unless_null (filter ∷ answer ∷ [])
     (fsep (feq ℕ result 1) (borrowed_by_property_paths l filter paths answer))
     (fex (List ℕ) (λ paths'. fex Answer (λ answer'.
@@ -114,14 +114,14 @@ left_by_property_paths l filter paths answer result = unless_null (filter ∷ an
     (λ old new. ReportsPaths l.handle old new answer' result)))))))
 
 -- what `odfilter_fault_text` borrows: a handle, bytes, a buffer, a fault's answer and the answer
-abbrev pub borrowed_by_fault_text : Loan → Ptr → Bytes → Buffer → Ptr → Ptr → Fml
+unfoldable pub borrowed_by_fault_text : Loan → Ptr → Bytes → Buffer → Ptr → Ptr → Fml
 borrowed_by_fault_text l given text sentence fault answer =
     fsep (borrowed_handle l given) (fsep (borrowed_bytes l text) (fsep (borrowed_buffer l sentence)
     (fsep (borrowed_fault l fault) (borrowed_answer l answer))))
 
 -- what it leaves: all unchanged and the status 1 where an address other than the type's is null, else what
 -- `ReportsSentence` says, or with a type `ReportsSentenceFor`
-abbrev pub left_by_fault_text : Loan → Ptr → ℕ → Bytes → Buffer → Ptr → Ptr → ℕ → Fml
+unfoldable pub left_by_fault_text : Loan → Ptr → ℕ → Bytes → Buffer → Ptr → Ptr → ℕ → Fml
 left_by_fault_text l given status text sentence fault answer result = unless_null (fault ∷ answer ∷ [])
     (fsep (feq ℕ result 1) (borrowed_by_fault_text l given text sentence fault answer))
     (fex (List ℕ) (λ sentence'. fex Answer (λ answer'.

@@ -11,22 +11,22 @@ use Rattle.handle_calls.specs.RowReports.{MakesJudgeOf, JudgesNext}
 use Rattle.handle_calls.specs.Shares.{Shares}
 
 -- what `odfilter_new_judge_of` borrows: a handle and the new handle's variable
-abbrev pub borrowed_by_new_judge_of : Loan → Ptr → Ptr → Fml
+unfoldable pub borrowed_by_new_judge_of : Loan → Ptr → Ptr → Fml
 borrowed_by_new_judge_of l filter judge = fsep (borrowed_handle l filter) (borrowed_made l judge)
 
 -- what it leaves: all unchanged and the status 1 where an address may not be null and is, else what `MakesJudgeOf` says
-abbrev pub left_by_new_judge_of : Loan → Ptr → Ptr → ℕ → Fml
+unfoldable pub left_by_new_judge_of : Loan → Ptr → Ptr → ℕ → Fml
 left_by_new_judge_of l filter judge result = unless_null (filter ∷ judge ∷ [])
     (fsep (feq ℕ result 1) (borrowed_by_new_judge_of l filter judge))
     (fex Owned (λ judge'.
     fsep (left_made l judge judge') (holds (MakesJudgeOf l.handle judge' result))))
 
 -- what `odfilter_judge_next` borrows: a judge that may change, bytes and the answer
-abbrev pub borrowed_by_judge_next : Loan → Ptr → Bytes → Ptr → Fml
+unfoldable pub borrowed_by_judge_next : Loan → Ptr → Bytes → Ptr → Fml
 borrowed_by_judge_next l judge row answer = fsep (borrowed_judge l judge) (fsep (borrowed_bytes l row) (borrowed_answer l answer))
 
 -- what it leaves: all unchanged and the status 1 where an address may not be null and is, else what `JudgesNext` says
-abbrev pub left_by_judge_next : Loan → Ptr → Bytes → Ptr → ℕ → Fml
+unfoldable pub left_by_judge_next : Loan → Ptr → Bytes → Ptr → ℕ → Fml
 left_by_judge_next l judge row answer result = unless_null (judge ∷ answer ∷ [])
     (fsep (feq ℕ result 1) (borrowed_by_judge_next l judge row answer))
     (fex Handle (λ judge'. fex Answer (λ answer'.
@@ -35,11 +35,11 @@ left_by_judge_next l judge row answer result = unless_null (judge ∷ answer ∷
     (λ bytes. JudgesNext l.judge judge' bytes answer' result)))))))
 
 -- what `odfilter_share` borrows: a handle and the new handle's variable
-abbrev pub borrowed_by_share : Loan → Ptr → Ptr → Fml
+unfoldable pub borrowed_by_share : Loan → Ptr → Ptr → Fml
 borrowed_by_share l handle made = fsep (borrowed_handle l handle) (borrowed_made l made)
 
 -- what it leaves: all unchanged and the status 1 where an address may not be null and is, else what `Shares` says
-abbrev pub left_by_share : Loan → Ptr → Ptr → ℕ → Fml
+unfoldable pub left_by_share : Loan → Ptr → Ptr → ℕ → Fml
 left_by_share l handle made result = unless_null (handle ∷ made ∷ [])
     (fsep (feq ℕ result 1) (borrowed_by_share l handle made))
     (fex Owned (λ made'.

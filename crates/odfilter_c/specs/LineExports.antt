@@ -10,13 +10,13 @@ use Rattle.handle_calls.specs.declared.handle.Handle.{Handle}
 use Rattle.handle_calls.specs.RowReports.{FiltersLines}
 
 -- what `odfilter_filter_lines` borrows: a handle, a judge that may change, bytes, a buffer and the answer
-abbrev pub borrowed_by_filter_lines : Loan → Ptr → Ptr → Bytes → Buffer → Ptr → Fml
+unfoldable pub borrowed_by_filter_lines : Loan → Ptr → Ptr → Bytes → Buffer → Ptr → Fml
 borrowed_by_filter_lines l filter judge rows kept answer =
     fsep (borrowed_handle l filter) (fsep (borrowed_judge l judge) (fsep (borrowed_bytes l rows)
     (fsep (borrowed_buffer l kept) (borrowed_answer l answer))))
 
 -- what it leaves: all unchanged and the status 1 where an address may not be null and is, else what `FiltersLines` says
-abbrev pub left_by_filter_lines : Loan → Ptr → Ptr → Bytes → Buffer → Ptr → ℕ → Fml
+unfoldable pub left_by_filter_lines : Loan → Ptr → Ptr → Bytes → Buffer → Ptr → ℕ → Fml
 left_by_filter_lines l filter judge rows kept answer result = unless_null (filter ∷ judge ∷ answer ∷ [])
     (fsep (feq ℕ result 1) (borrowed_by_filter_lines l filter judge rows kept answer))
     (fex Handle (λ judge'. fex (List ℕ) (λ kept'. fex Answer (λ answer'.

@@ -10,12 +10,12 @@ use Rattle.handle_calls.specs.declared.owned.Owned.{Owned}
 use Rattle.report_calls.specs.SqlHandles.{MakesSql, ReportsStatement, ReportsValue}
 
 -- what `odfilter_new_sql` borrows: a handle, bytes, the new handle's variable and the answer
-abbrev pub borrowed_by_new_sql : Loan → Ptr → Bytes → Ptr → Ptr → Fml
+unfoldable pub borrowed_by_new_sql : Loan → Ptr → Bytes → Ptr → Ptr → Fml
 borrowed_by_new_sql l filter how conditions answer =
     fsep (borrowed_handle l filter) (fsep (borrowed_bytes l how) (fsep (borrowed_made l conditions) (borrowed_answer l answer)))
 
 -- what it leaves: all unchanged and the status 1 where an address may not be null and is, else what `MakesSql` says
-abbrev pub left_by_new_sql : Loan → Ptr → ℕ → Bytes → Ptr → Ptr → ℕ → Fml
+unfoldable pub left_by_new_sql : Loan → Ptr → ℕ → Bytes → Ptr → Ptr → ℕ → Fml
 left_by_new_sql l filter form how conditions answer result = unless_null (filter ∷ conditions ∷ answer ∷ [])
     (fsep (feq ℕ result 1) (borrowed_by_new_sql l filter how conditions answer))
     (fex Owned (λ conditions'. fex Answer (λ answer'.
@@ -24,13 +24,13 @@ left_by_new_sql l filter form how conditions answer result = unless_null (filter
     (λ bytes. MakesSql l.handle form bytes conditions' answer' result)))))))
 
 -- what `odfilter_sql_text` borrows: a handle, a buffer and the answer
-abbrev pub borrowed_by_sql_text : Loan → Ptr → Buffer → Ptr → Fml
+unfoldable pub borrowed_by_sql_text : Loan → Ptr → Buffer → Ptr → Fml
 borrowed_by_sql_text l conditions text answer =
     fsep (borrowed_handle l conditions) (fsep (borrowed_buffer l text) (borrowed_answer l answer))
 
 -- what it leaves: all unchanged and the status 1 where an address may not be null and is, else what `ReportsStatement`
 -- says
-abbrev pub left_by_sql_text : Loan → Ptr → ℕ → Buffer → Ptr → ℕ → Fml
+unfoldable pub left_by_sql_text : Loan → Ptr → ℕ → Buffer → Ptr → ℕ → Fml
 left_by_sql_text l conditions which text answer result = unless_null (conditions ∷ answer ∷ [])
     (fsep (feq ℕ result 1) (borrowed_by_sql_text l conditions text answer))
     (fex (List ℕ) (λ text'. fex Answer (λ answer'.
@@ -39,12 +39,12 @@ left_by_sql_text l conditions which text answer result = unless_null (conditions
     (λ old new. ReportsStatement l.handle which old new answer' result)))))))
 
 -- what `odfilter_sql_value` borrows: a handle, a buffer and the answer
-abbrev pub borrowed_by_sql_value : Loan → Ptr → Buffer → Ptr → Fml
+unfoldable pub borrowed_by_sql_value : Loan → Ptr → Buffer → Ptr → Fml
 borrowed_by_sql_value l conditions text answer =
     fsep (borrowed_handle l conditions) (fsep (borrowed_buffer l text) (borrowed_answer l answer))
 
 -- what it leaves: all unchanged and the status 1 where an address may not be null and is, else what `ReportsValue` says
-abbrev pub left_by_sql_value : Loan → Ptr → ℕ → ℕ → Buffer → Ptr → ℕ → Fml
+unfoldable pub left_by_sql_value : Loan → Ptr → ℕ → ℕ → Buffer → Ptr → ℕ → Fml
 left_by_sql_value l conditions which index text answer result = unless_null (conditions ∷ answer ∷ [])
     (fsep (feq ℕ result 1) (borrowed_by_sql_value l conditions text answer))
     (fex (List ℕ) (λ text'. fex Answer (λ answer'.

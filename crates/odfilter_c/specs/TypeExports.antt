@@ -8,11 +8,11 @@ use Rattle.odfilter_c.specs.declared.c_types.Buffer.{Buffer}
 use Rattle.report_calls.specs.Reports.{ReportsTypes}
 
 -- what `odfilter_types` borrows: a handle, a buffer and the answer
-abbrev pub borrowed_by_types : Loan → Ptr → Buffer → Ptr → Fml
+unfoldable pub borrowed_by_types : Loan → Ptr → Buffer → Ptr → Fml
 borrowed_by_types l given text answer = fsep (borrowed_handle l given) (fsep (borrowed_buffer l text) (borrowed_answer l answer))
 
 -- what it leaves: all unchanged and the status 1 where an address may not be null and is, else what `ReportsTypes` says
-abbrev pub left_by_types : Loan → Ptr → Buffer → Ptr → ℕ → Fml
+unfoldable pub left_by_types : Loan → Ptr → Buffer → Ptr → ℕ → Fml
 left_by_types l given text answer result = unless_null (given ∷ answer ∷ [])
     (fsep (feq ℕ result 1) (borrowed_by_types l given text answer))
     (fex (List ℕ) (λ text'. fex Answer (λ answer'.

@@ -1,6 +1,6 @@
 -- `find_type` meets its contract: the addresses are tested one by one, and the call borrows what they point to.
 use Rattle.odfilter_c.proofs.Steps.{◌≡◌, ℕ, ◌<◌, [], ◌∷◌, refl, lit<, w32, w64, proved, leaves, none, there_is, Ura, SProp, id⊢, ftrue, fsep, flft, Val, vint, vptr, Memory, Routine, WpFn, Calls, Loops, Fun, fact, tables, FmC, Logic, ‵, raw, ◌⊛◌, prop, Sq, ◌$◌, ◌∵◌, !, qed, move, keep, drop, use0, use1, use2, split, join, fsplit, fjoin, fpack, pick, await, by, enter, of_opd, addr, stop, fld, no_more, and_then, branches, agg, sub, whole, alloc_all, pass_all, free_all, get, get_in, through, sets, u32, usize, yes, Typed, Is, shows, uint_Makes, uint_Lawful, Ptr, RawPtr, block_ptr, null_ptr, ptr_val, Testable, rawptr_vals, rawptr_Tells, slice_val, owns, types_at, plain, nothing, owned, heard, peeks, Contract, Triple, calls_at_last, triple_of, Stays, walk_of, stay_dropped, Goes-dropped, framed, Global, GlobalRow, global_lowers, global_val, global_laws, Bytes, BytesRow, bytes_lowers, bytes_val, bytes_laws, Owned, HasNull, in_rest, trues, good, all_true, back, hold, unchanged, compares, stands, tested, closes, hands, inside, ends1}
-use Rattle.odfilter_c.specs.Loans.{Loan, left_made, of_bytes, holds}
+use Rattle.odfilter_c.specs.Loans.{Loan, left_made, of_bytes, holds, borrowed_handle, borrowed_bytes, borrowed_made, unless_null}
 use Rattle.odfilter_c.specs.Exports.{borrowed_by_find_type, left_by_find_type}
 use Rattle.handle_calls.specs.Reports.{FindsType}
 use Rattle.handle_calls.specs.contracts.calls.find_type as g
@@ -11,6 +11,7 @@ use Rattle.odfilter_c.proofs.null_calls.find_type_at_null.Symbol.{name as #call-
 use Rattle.odfilter_c.proofs.null_calls.find_type_at_null.Met.{met as met-1}
 use Rattle.odfilter_c.specs.contracts.exports.odfilter_find_type as f
 use Rattle.odfilter_c.proofs.exports.odfilter_find_type.Statement.{statement}
+use base.Fml.{Fml, feq, fex}
 use Rattle.odfilter_c.proofs.exports.odfilter_find_type.Code as code
 
 abbrev stayed : Stays f.ended.signature.params f.ended.kept
@@ -20,6 +21,18 @@ module _ {M : Type 1} {𝓤 : Ura M} (𝓛 : Logic 𝓤) (at_mem : Memory → SP
     (known : Triple 𝓤 (C #call) (triple_of 𝓛 g.signature (g.spec 𝓛 at_mem run)))
     (known-1 : Triple 𝓤 (C #call-1) (triple_of 𝓛 g-1.signature (g-1.spec 𝓛 at_mem run))) (l : Loan) where
   open 𝓛 use {H}
+
+  -- what the call borrows, and what it leaves
+  abbrev Borrowed : Ptr → Bytes → Ptr → Fml
+  Borrowed schema name made = fsep (borrowed_handle l schema) (fsep (borrowed_bytes l name) (borrowed_made l made))
+
+  abbrev Left : Ptr → Bytes → Ptr → ℕ → Fml
+  Left schema name made result = unless_null (schema ∷ made ∷ [])
+      (fsep (feq ℕ result 1) (Borrowed schema name made))
+      (fex Owned (λ made'.
+      fsep (left_made l made made')
+      (holds (of_bytes name.at name.length l.bytes ((made' ≡ l.made) × (result ≡ 1))
+      (λ bytes. FindsType l.handle bytes made' result)))))
 
   abbrev G : Contract 𝓤
   G = triple_of 𝓛 g.signature (g.spec 𝓛 at_mem run)
@@ -34,9 +47,10 @@ module _ {M : Type 1} {𝓤 : Ura M} (𝓛 : Logic 𝓤) (at_mem : Memory → SP
   bound alloc schema name made = ((tt, tt, tt, (alloc, (schema, (name, (made, tt)))), (global_val alloc ∷ [], (ptr_val schema ∷ [], (bytes_val name ∷ [], (ptr_val made ∷ [], tt))))), l)
 
   abbrev Walk : Global → Ptr → Bytes → Ptr → Type 1
-  Walk alloc schema name made = Sq 𝓛 (‵ (flft l.lifetime l.share) ∷ ‵ (borrowed_by_find_type l schema name made) ∷ ‵ (GlobalRow.own_val alloc (global_val alloc ∷ [])) ∷ []) (prop (WpFn 𝓤 H C Λ code.function (global_val alloc ∷ ptr_val schema ∷ bytes_val name ∷ ptr_val made ∷ []) (W.post (bound alloc schema name made))))
+  Walk alloc schema name made = Sq 𝓛 (‵ (flft l.lifetime l.share) ∷ ‵ (Borrowed schema name made) ∷ ‵ (GlobalRow.own_val alloc (global_val alloc ∷ [])) ∷ []) (prop (WpFn 𝓤 H C Λ code.function (global_val alloc ∷ ptr_val schema ∷ bytes_val name ∷ ptr_val made ∷ []) (W.post (bound alloc schema name made))))
 
-  ends : (alloc : Global) (schema : Ptr) (name : Bytes) (made : Ptr) (v : Val) (x : ℕ) → Sq 𝓛 (‵ (left_by_find_type l schema name made x) ∷ ‵ (u32.own_val x (v ∷ [])) ∷ ‵ (flft l.lifetime l.share) ∷ []) (prop (W.post (bound alloc schema name made) v))
+  ends : (alloc : Global) (schema : Ptr) (name : Bytes) (made : Ptr) (v : Val) (x : ℕ) → Sq 𝓛 (‵ (Left schema name made x) ∷ ‵ (u32.own_val x (v ∷ [])) ∷ ‵ (flft l.lifetime l.share) ∷ []) (prop (W.post (bound alloc schema name made) v))
+  unfolding borrowed_by_find_type left_by_find_type
   ends alloc schema name made v x = move ! (2 ∷ 0 ∷ []) $ join ! $ move ! (1 ∷ []) $ use0 𝓛 (‵ (trues 4)) (all_true 𝓛 4) $ nothing ! $
       by ! (leaves 𝓛 f.ended stayed (f.clauses 𝓛 at_mem run) (bound alloc schema name made) v x (tt, (tt, (tt, (tt, tt)))) (tt, (tt, (tt, (tt, tt)))))
 
@@ -86,6 +100,7 @@ module _ {M : Type 1} {𝓤 : Ura M} (𝓛 : Logic 𝓤) (at_mem : Memory → SP
       fpack ! Owned (λ made'. fsep (left_made l (block_ptr b2 o2) made') (holds (of_bytes (block_ptr b1 o1) name-length l.bytes ((made' ≡ l.made) × (x ≡ 1)) (λ bytes. FindsType l.handle bytes made' x)))) ws.1.1.1.0 $ ends alloc (block_ptr b0 o0) (record { at = (block_ptr b1 o1); length = name-length }) (block_ptr b2 o2) v x)))))))
 
 pub odfilter_find_type_spec : {M : Type 1} → statement M
+unfolding borrowed_by_find_type
 odfilter_find_type_spec 𝓤 𝓛 𝓜 𝓡 wired =
     let c = f.clauses 𝓛 𝓜.mem 𝓡.returns in let 𝓣 = tables 𝓤 𝓛.H 𝓜 𝓡 𝓡.env in
     proved 𝓛 f.ended stayed c 𝓜 𝓡 (Goes-dropped 𝓛 0 (plain (λ _. GlobalRow)) yes (λ κs x w. refl), (Goes-dropped 𝓛 0 (plain (λ _. RawPtr)) yes (λ κs x w. refl), (Goes-dropped 𝓛 0 (plain (λ _. BytesRow)) yes (λ κs x w. refl), (Goes-dropped 𝓛 0 (plain (λ _. RawPtr)) yes (λ κs x w. refl), tt))))

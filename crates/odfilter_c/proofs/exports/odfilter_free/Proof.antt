@@ -1,6 +1,6 @@
 -- `free` meets its contract: the addresses are tested one by one, and the call borrows what they point to.
 use Rattle.odfilter_c.proofs.Steps.{ℕ, ◌<◌, [], ◌∷◌, refl, lit<, w32, proved, leaves, none, Ura, SProp, id⊢, ftrue, fsep, flft, Val, vint, vptr, Memory, Routine, WpFn, Calls, Loops, Fun, fact, tables, FmC, Logic, ‵, raw, ◌⊛◌, prop, Sq, ◌$◌, ◌∵◌, !, qed, move, keep, drop, use0, use1, use2, split, join, fsplit, fjoin, fpack, pick, await, by, enter, addr, stop, no_more, and_then, alloc_all, pass_all, free_all, get, through, sets, u32, yes, Typed, Is, shows, uint_Lawful, Ptr, RawPtr, block_ptr, null_ptr, ptr_val, Testable, rawptr_vals, rawptr_Tells, owns, types_at, plain, nothing, heard, peeks, Contract, Triple, calls_at_last, triple_of, Stays, walk_of, stay_dropped, Goes-dropped, framed, Global, GlobalRow, global_lowers, global_val, global_laws, Owned, HasNull, in_rest, trues, good, all_true, back, hold, unchanged, stands, tested, closes, inside, ends0}
-use Rattle.odfilter_c.specs.Loans.{Loan, left_made, holds}
+use Rattle.odfilter_c.specs.Loans.{Loan, left_made, holds, borrowed_made, unless_null}
 use Rattle.odfilter_c.specs.Exports.{borrowed_by_free, left_by_free}
 use Rattle.handle_calls.specs.Reports.{Frees}
 use Rattle.handle_calls.specs.contracts.calls.free as g
@@ -8,6 +8,7 @@ use Rattle.handle_calls.proofs.calls.free.Symbol.{name as #call}
 use Rattle.handle_calls.proofs.calls.free.Met.{met as met}
 use Rattle.odfilter_c.specs.contracts.exports.odfilter_free as f
 use Rattle.odfilter_c.proofs.exports.odfilter_free.Statement.{statement}
+use base.Fml.{Fml, feq, fex}
 use Rattle.odfilter_c.proofs.exports.odfilter_free.Code as code
 
 abbrev stayed : Stays f.ended.signature.params f.ended.kept
@@ -16,6 +17,16 @@ stayed = (stay_dropped _ yes, (stay_dropped _ yes, tt))
 module _ {M : Type 1} {𝓤 : Ura M} (𝓛 : Logic 𝓤) (at_mem : Memory → SProp 𝓤) (run : Routine → Fun 𝓤) (C : Calls 𝓤 𝓛.H) (Λ : Loops 𝓤 𝓛.H) (fm : FmC 𝓤 𝓛.H 𝓛.laws C)
     (known : Triple 𝓤 (C #call) (triple_of 𝓛 g.signature (g.spec 𝓛 at_mem run))) (l : Loan) where
   open 𝓛 use {H}
+
+  -- what the call borrows, and what it leaves
+  abbrev Borrowed : Ptr → Fml
+  Borrowed handle = borrowed_made l handle
+
+  abbrev Left : Ptr → ℕ → Fml
+  Left handle result = unless_null (handle ∷ [])
+      (fsep (feq ℕ result 1) (Borrowed handle))
+      (fex Owned (λ handle'.
+      fsep (left_made l handle handle') (holds (Frees l.made handle' result))))
 
   abbrev G : Contract 𝓤
   G = triple_of 𝓛 g.signature (g.spec 𝓛 at_mem run)
@@ -27,9 +38,10 @@ module _ {M : Type 1} {𝓤 : Ura M} (𝓛 : Logic 𝓤) (at_mem : Memory → SP
   bound alloc handle = ((tt, tt, tt, (alloc, (handle, tt)), (global_val alloc ∷ [], (ptr_val handle ∷ [], tt))), l)
 
   abbrev Walk : Global → Ptr → Type 1
-  Walk alloc handle = Sq 𝓛 (‵ (flft l.lifetime l.share) ∷ ‵ (borrowed_by_free l handle) ∷ ‵ (GlobalRow.own_val alloc (global_val alloc ∷ [])) ∷ []) (prop (WpFn 𝓤 H C Λ code.function (global_val alloc ∷ ptr_val handle ∷ []) (W.post (bound alloc handle))))
+  Walk alloc handle = Sq 𝓛 (‵ (flft l.lifetime l.share) ∷ ‵ (Borrowed handle) ∷ ‵ (GlobalRow.own_val alloc (global_val alloc ∷ [])) ∷ []) (prop (WpFn 𝓤 H C Λ code.function (global_val alloc ∷ ptr_val handle ∷ []) (W.post (bound alloc handle))))
 
-  ends : (alloc : Global) (handle : Ptr) (v : Val) (x : ℕ) → Sq 𝓛 (‵ (left_by_free l handle x) ∷ ‵ (u32.own_val x (v ∷ [])) ∷ ‵ (flft l.lifetime l.share) ∷ []) (prop (W.post (bound alloc handle) v))
+  ends : (alloc : Global) (handle : Ptr) (v : Val) (x : ℕ) → Sq 𝓛 (‵ (Left handle x) ∷ ‵ (u32.own_val x (v ∷ [])) ∷ ‵ (flft l.lifetime l.share) ∷ []) (prop (W.post (bound alloc handle) v))
+  unfolding borrowed_by_free left_by_free
   ends alloc handle v x = move ! (2 ∷ 0 ∷ []) $ join ! $ move ! (1 ∷ []) $ use0 𝓛 (‵ (trues 2)) (all_true 𝓛 2) $ nothing ! $
       by ! (leaves 𝓛 f.ended stayed (f.clauses 𝓛 at_mem run) (bound alloc handle) v x (tt, (tt, tt)) (tt, (tt, tt)))
 
@@ -58,6 +70,7 @@ module _ {M : Type 1} {𝓤 : Ura M} (𝓛 : Logic 𝓤) (at_mem : Memory → SP
       fpack ! Owned (λ handle'. fsep (left_made l (block_ptr b0 o0) handle') (holds (Frees l.made handle' x))) ws.1.0 $ ends alloc (block_ptr b0 o0) v x))))))
 
 pub odfilter_free_spec : {M : Type 1} → statement M
+unfolding borrowed_by_free
 odfilter_free_spec 𝓤 𝓛 𝓜 𝓡 wired =
     let c = f.clauses 𝓛 𝓜.mem 𝓡.returns in let 𝓣 = tables 𝓤 𝓛.H 𝓜 𝓡 𝓡.env in
     proved 𝓛 f.ended stayed c 𝓜 𝓡 (Goes-dropped 𝓛 0 (plain (λ _. GlobalRow)) yes (λ κs x w. refl), (Goes-dropped 𝓛 0 (plain (λ _. RawPtr)) yes (λ κs x w. refl), tt))

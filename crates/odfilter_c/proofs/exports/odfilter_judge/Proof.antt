@@ -1,6 +1,6 @@
 -- `judge` meets its contract: the addresses are tested one by one, and the call borrows what they point to.
 use Rattle.odfilter_c.proofs.Steps.{◌≡◌, ℕ, ◌<◌, [], ◌∷◌, refl, lit<, w32, w64, proved, leaves, none, there_is, Ura, SProp, id⊢, fsep, flft, Val, vint, vptr, Memory, Routine, WpFn, Calls, Loops, Fun, fact, tables, FmC, Logic, ‵, raw, ◌⊛◌, prop, Sq, ◌$◌, ◌∵◌, !, qed, move, keep, drop, use0, use1, use2, split, join, fsplit, fjoin, pick, await, by, enter, of_opd, addr, stop, fld, no_more, and_then, branches, agg, sub, whole, alloc_all, pass_all, free_all, get, get_in, through, sets, u32, usize, yes, Typed, Is, shows, uint_Makes, uint_Lawful, Ptr, RawPtr, block_ptr, null_ptr, ptr_val, Testable, rawptr_vals, rawptr_Tells, slice_val, plain, nothing, owned, heard, peeks, Contract, Triple, calls_at_last, on_entry, triple_of, Stays, walk_of, stay_dropped, Goes-dropped, framed, Bytes, BytesRow, bytes_lowers, bytes_val, bytes_laws, Handle, Answer, HasNull, in_rest, trues, good, all_true, back, hold, unchanged, fpack2, compares, stands, tested, closes, hands, inside, ends1}
-use Rattle.odfilter_c.specs.Loans.{Loan, left_judge, left_answer, of_bytes, holds}
+use Rattle.odfilter_c.specs.Loans.{Loan, left_judge, left_answer, of_bytes, holds, borrowed_handle, borrowed_judge, borrowed_bytes, borrowed_answer, unless_null}
 use Rattle.odfilter_c.specs.Exports.{borrowed_by_judge, left_by_judge}
 use Rattle.handle_calls.specs.RowReports.{JudgesOne}
 use Rattle.handle_calls.specs.contracts.calls.judge as g
@@ -11,6 +11,7 @@ use Rattle.odfilter_c.proofs.null_calls.judge_at_null.Symbol.{name as #call-1}
 use Rattle.odfilter_c.proofs.null_calls.judge_at_null.Met.{met as met-1}
 use Rattle.odfilter_c.specs.contracts.exports.odfilter_judge as f
 use Rattle.odfilter_c.proofs.exports.odfilter_judge.Statement.{statement}
+use base.Fml.{Fml, feq, fex}
 use Rattle.odfilter_c.proofs.exports.odfilter_judge.Code as code
 
 abbrev stayed : Stays f.ended.signature.params f.ended.kept
@@ -20,6 +21,18 @@ module _ {M : Type 1} {𝓤 : Ura M} (𝓛 : Logic 𝓤) (at_mem : Memory → SP
     (known : Triple 𝓤 (C #call) (triple_of 𝓛 g.signature (g.spec 𝓛 at_mem run)))
     (known-1 : Triple 𝓤 (C #call-1) (triple_of 𝓛 g-1.signature (g-1.spec 𝓛 at_mem run))) (l : Loan) where
   open 𝓛 use {H}
+
+  -- what the call borrows, and what it leaves
+  abbrev Borrowed : Ptr → Ptr → Bytes → Ptr → Fml
+  Borrowed filter judge row answer = fsep (borrowed_handle l filter) (fsep (borrowed_judge l judge) (fsep (borrowed_bytes l row) (borrowed_answer l answer)))
+
+  abbrev Left : Ptr → Ptr → Bytes → Ptr → ℕ → Fml
+  Left filter judge row answer result = unless_null (filter ∷ judge ∷ answer ∷ [])
+      (fsep (feq ℕ result 1) (Borrowed filter judge row answer))
+      (fex Handle (λ judge'. fex Answer (λ answer'.
+      fsep (left_judge l judge judge') (fsep (left_answer l answer answer')
+      (holds (of_bytes row.at row.length l.bytes ((judge' ≡ l.judge) × ((answer' ≡ l.answer) × (result ≡ 1)))
+      (λ bytes. JudgesOne l.handle l.judge judge' bytes answer' result)))))))
 
   abbrev G : Contract 𝓤
   G = triple_of 𝓛 g.signature (g.spec 𝓛 at_mem run)
@@ -34,9 +47,10 @@ module _ {M : Type 1} {𝓤 : Ura M} (𝓛 : Logic 𝓤) (at_mem : Memory → SP
   bound filter judge row answer = ((tt, tt, tt, (filter, (judge, (row, (answer, tt)))), (ptr_val filter ∷ [], (ptr_val judge ∷ [], (bytes_val row ∷ [], (ptr_val answer ∷ [], tt))))), l)
 
   abbrev Walk : Ptr → Ptr → Bytes → Ptr → Type 1
-  Walk filter judge row answer = Sq 𝓛 (‵ (flft l.lifetime l.share) ∷ ‵ (borrowed_by_judge l filter judge row answer) ∷ []) (prop (WpFn 𝓤 H C Λ code.function (ptr_val filter ∷ ptr_val judge ∷ bytes_val row ∷ ptr_val answer ∷ []) (W.post (bound filter judge row answer))))
+  Walk filter judge row answer = Sq 𝓛 (‵ (flft l.lifetime l.share) ∷ ‵ (Borrowed filter judge row answer) ∷ []) (prop (WpFn 𝓤 H C Λ code.function (ptr_val filter ∷ ptr_val judge ∷ bytes_val row ∷ ptr_val answer ∷ []) (W.post (bound filter judge row answer))))
 
-  ends : (filter : Ptr) (judge : Ptr) (row : Bytes) (answer : Ptr) (v : Val) (x : ℕ) → Sq 𝓛 (‵ (left_by_judge l filter judge row answer x) ∷ ‵ (u32.own_val x (v ∷ [])) ∷ ‵ (flft l.lifetime l.share) ∷ []) (prop (W.post (bound filter judge row answer) v))
+  ends : (filter : Ptr) (judge : Ptr) (row : Bytes) (answer : Ptr) (v : Val) (x : ℕ) → Sq 𝓛 (‵ (Left filter judge row answer x) ∷ ‵ (u32.own_val x (v ∷ [])) ∷ ‵ (flft l.lifetime l.share) ∷ []) (prop (W.post (bound filter judge row answer) v))
+  unfolding borrowed_by_judge left_by_judge
   ends filter judge row answer v x = move ! (2 ∷ 0 ∷ []) $ join ! $ move ! (1 ∷ []) $ use0 𝓛 (‵ (trues 4)) (all_true 𝓛 4) $ nothing ! $
       by ! (leaves 𝓛 f.ended stayed (f.clauses 𝓛 at_mem run) (bound filter judge row answer) v x (tt, (tt, (tt, (tt, tt)))) (tt, (tt, (tt, (tt, tt)))))
 
@@ -92,6 +106,7 @@ module _ {M : Type 1} {𝓤 : Ura M} (𝓛 : Logic 𝓤) (at_mem : Memory → SP
       fpack2 ! Handle Answer (λ judge' answer'. fsep (left_judge l (block_ptr b1 o1) judge') (fsep (left_answer l (block_ptr b3 o3) answer') (holds (of_bytes (block_ptr b2 o2) row-length l.bytes ((judge' ≡ l.judge) × ((answer' ≡ l.answer) × (x ≡ 1))) (λ bytes. JudgesOne l.handle l.judge judge' bytes answer' x))))) ws.1.0 ws.1.1.1.0 $ ends (block_ptr b0 o0) (block_ptr b1 o1) (record { at = (block_ptr b2 o2); length = row-length }) (block_ptr b3 o3) v x)))))))
 
 pub odfilter_judge_spec : {M : Type 1} → statement M
+unfolding borrowed_by_judge
 odfilter_judge_spec 𝓤 𝓛 𝓜 𝓡 wired =
     let c = f.clauses 𝓛 𝓜.mem 𝓡.returns in let 𝓣 = tables 𝓤 𝓛.H 𝓜 𝓡 𝓡.env in
     proved 𝓛 f.ended stayed c 𝓜 𝓡 (Goes-dropped 𝓛 0 (plain (λ _. RawPtr)) yes (λ κs x w. refl), (Goes-dropped 𝓛 0 (plain (λ _. RawPtr)) yes (λ κs x w. refl), (Goes-dropped 𝓛 0 (plain (λ _. BytesRow)) yes (λ κs x w. refl), (Goes-dropped 𝓛 0 (plain (λ _. RawPtr)) yes (λ κs x w. refl), tt))))

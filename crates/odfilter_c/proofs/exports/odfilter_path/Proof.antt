@@ -1,6 +1,6 @@
 -- `path` meets its contract: the addresses are tested one by one, and the call borrows what they point to.
 use Rattle.odfilter_c.proofs.Steps.{◌≡◌, ℕ, ◌<◌, List, [], ◌∷◌, refl, lit<, w32, w64, proved, leaves, none, there_is, Ura, SProp, id⊢, fsep, flft, Val, vint, vptr, Memory, Routine, WpFn, Calls, Loops, Fun, fact, tables, FmC, Logic, ‵, raw, ◌⊛◌, prop, Sq, ◌$◌, ◌∵◌, !, qed, move, keep, drop, use0, use1, use2, split, join, fsplit, fjoin, pick, await, by, enter, of_opd, addr, stop, fld, no_more, and_then, branches, agg, sub, whole, alloc_all, pass_all, free_all, get, get_in, through, sets, u32, usize, yes, Typed, Is, shows, uint_Makes, uint_Lawful, Ptr, RawPtr, block_ptr, null_ptr, ptr_val, Testable, rawptr_vals, rawptr_Tells, slice_val, plain, nothing, owned, heard, peeks, Contract, Triple, calls_at_last, on_entry, triple_of, Stays, walk_of, stay_dropped, Goes-dropped, framed, Buffer, BufferRow, buffer_lowers, buffer_val, buffer_laws, Answer, HasNull, in_rest, trues, good, all_true, back, hold, unchanged, fpack2, compares, stands, tested, closes, hands, inside, ends1}
-use Rattle.odfilter_c.specs.Loans.{Loan, left_buffer, left_answer, of_buffer, holds}
+use Rattle.odfilter_c.specs.Loans.{Loan, left_buffer, left_answer, of_buffer, holds, borrowed_handle, borrowed_buffer, borrowed_answer, unless_null}
 use Rattle.odfilter_c.specs.Exports.{borrowed_by_path, left_by_path}
 use Rattle.handle_calls.specs.RowReports.{ReportsPath}
 use Rattle.handle_calls.specs.contracts.calls.path as g
@@ -11,6 +11,7 @@ use Rattle.odfilter_c.proofs.length_calls.path_to_null.Symbol.{name as #call-1}
 use Rattle.odfilter_c.proofs.length_calls.path_to_null.Met.{met as met-1}
 use Rattle.odfilter_c.specs.contracts.exports.odfilter_path as f
 use Rattle.odfilter_c.proofs.exports.odfilter_path.Statement.{statement}
+use base.Fml.{Fml, feq, fex}
 use Rattle.odfilter_c.proofs.exports.odfilter_path.Code as code
 
 abbrev stayed : Stays f.ended.signature.params f.ended.kept
@@ -20,6 +21,18 @@ module _ {M : Type 1} {𝓤 : Ura M} (𝓛 : Logic 𝓤) (at_mem : Memory → SP
     (known : Triple 𝓤 (C #call) (triple_of 𝓛 g.signature (g.spec 𝓛 at_mem run)))
     (known-1 : Triple 𝓤 (C #call-1) (triple_of 𝓛 g-1.signature (g-1.spec 𝓛 at_mem run))) (l : Loan) where
   open 𝓛 use {H}
+
+  -- what the call borrows, and what it leaves
+  abbrev Borrowed : Ptr → Buffer → Ptr → Fml
+  Borrowed judge path answer = fsep (borrowed_handle l judge) (fsep (borrowed_buffer l path) (borrowed_answer l answer))
+
+  abbrev Left : Ptr → Buffer → Ptr → ℕ → Fml
+  Left judge path answer result = unless_null (judge ∷ answer ∷ [])
+      (fsep (feq ℕ result 1) (Borrowed judge path answer))
+      (fex (List ℕ) (λ path'. fex Answer (λ answer'.
+      fsep (left_buffer l path path') (fsep (left_answer l answer answer')
+      (holds (of_buffer path.at path.length l.buffer path' ((answer' ≡ l.answer) × (result ≡ 1))
+      (λ old new. ReportsPath l.handle old new answer' result)))))))
 
   abbrev G : Contract 𝓤
   G = triple_of 𝓛 g.signature (g.spec 𝓛 at_mem run)
@@ -34,9 +47,10 @@ module _ {M : Type 1} {𝓤 : Ura M} (𝓛 : Logic 𝓤) (at_mem : Memory → SP
   bound judge path answer = ((tt, tt, tt, (judge, (path, (answer, tt))), (ptr_val judge ∷ [], (buffer_val path ∷ [], (ptr_val answer ∷ [], tt)))), l)
 
   abbrev Walk : Ptr → Buffer → Ptr → Type 1
-  Walk judge path answer = Sq 𝓛 (‵ (flft l.lifetime l.share) ∷ ‵ (borrowed_by_path l judge path answer) ∷ []) (prop (WpFn 𝓤 H C Λ code.function (ptr_val judge ∷ buffer_val path ∷ ptr_val answer ∷ []) (W.post (bound judge path answer))))
+  Walk judge path answer = Sq 𝓛 (‵ (flft l.lifetime l.share) ∷ ‵ (Borrowed judge path answer) ∷ []) (prop (WpFn 𝓤 H C Λ code.function (ptr_val judge ∷ buffer_val path ∷ ptr_val answer ∷ []) (W.post (bound judge path answer))))
 
-  ends : (judge : Ptr) (path : Buffer) (answer : Ptr) (v : Val) (x : ℕ) → Sq 𝓛 (‵ (left_by_path l judge path answer x) ∷ ‵ (u32.own_val x (v ∷ [])) ∷ ‵ (flft l.lifetime l.share) ∷ []) (prop (W.post (bound judge path answer) v))
+  ends : (judge : Ptr) (path : Buffer) (answer : Ptr) (v : Val) (x : ℕ) → Sq 𝓛 (‵ (Left judge path answer x) ∷ ‵ (u32.own_val x (v ∷ [])) ∷ ‵ (flft l.lifetime l.share) ∷ []) (prop (W.post (bound judge path answer) v))
+  unfolding borrowed_by_path left_by_path
   ends judge path answer v x = move ! (2 ∷ 0 ∷ []) $ join ! $ move ! (1 ∷ []) $ use0 𝓛 (‵ (trues 3)) (all_true 𝓛 3) $ nothing ! $
       by ! (leaves 𝓛 f.ended stayed (f.clauses 𝓛 at_mem run) (bound judge path answer) v x (tt, (tt, (tt, tt))) (tt, (tt, (tt, tt))))
 
@@ -86,6 +100,7 @@ module _ {M : Type 1} {𝓤 : Ura M} (𝓛 : Logic 𝓤) (at_mem : Memory → SP
       fpack2 ! (List ℕ) Answer (λ path' answer'. fsep (left_buffer l (record { at = (block_ptr b1 o1); length = path-length }) path') (fsep (left_answer l (block_ptr b2 o2) answer') (holds (of_buffer (block_ptr b1 o1) path-length l.buffer path' ((answer' ≡ l.answer) × (x ≡ 1)) (λ old new. ReportsPath l.handle old new answer' x))))) ws.1.0 ws.1.1.0 $ ends (block_ptr b0 o0) (record { at = (block_ptr b1 o1); length = path-length }) (block_ptr b2 o2) v x)))))))
 
 pub odfilter_path_spec : {M : Type 1} → statement M
+unfolding borrowed_by_path
 odfilter_path_spec 𝓤 𝓛 𝓜 𝓡 wired =
     let c = f.clauses 𝓛 𝓜.mem 𝓡.returns in let 𝓣 = tables 𝓤 𝓛.H 𝓜 𝓡 𝓡.env in
     proved 𝓛 f.ended stayed c 𝓜 𝓡 (Goes-dropped 𝓛 0 (plain (λ _. RawPtr)) yes (λ κs x w. refl), (Goes-dropped 𝓛 0 (plain (λ _. BufferRow)) yes (λ κs x w. refl), (Goes-dropped 𝓛 0 (plain (λ _. RawPtr)) yes (λ κs x w. refl), tt)))

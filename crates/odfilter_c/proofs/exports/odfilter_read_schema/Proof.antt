@@ -1,6 +1,6 @@
 -- `read_schema` meets its contract: the addresses are tested one by one, and the call borrows what they point to.
 use Rattle.odfilter_c.proofs.Steps.{◌≡◌, ℕ, ◌<◌, List, [], ◌∷◌, refl, lit<, w32, w64, proved, leaves, none, there_is, Ura, SProp, id⊢, ftrue, fsep, flft, Val, vint, vptr, Memory, Routine, WpFn, Calls, Loops, Fun, fact, tables, FmC, Logic, ‵, raw, ◌⊛◌, prop, Sq, ◌$◌, ◌∵◌, !, qed, move, keep, drop, use0, use1, use2, split, join, fsplit, fjoin, pick, await, by, enter, addr, stop, fld, no_more, and_then, branches, agg, sub, whole, alloc_all, pass_all, free_all, get, get_in, through, sets, u32, usize, yes, Typed, Is, shows, uint_Makes, uint_Lawful, Ptr, RawPtr, block_ptr, null_ptr, ptr_val, Testable, rawptr_vals, rawptr_Tells, slice_val, owns, types_at, plain, nothing, owned, heard, peeks, Contract, Triple, calls_at_last, triple_of, Stays, walk_of, stay_dropped, Goes-dropped, framed, Global, GlobalRow, global_lowers, global_val, global_laws, Bytes, BytesRow, bytes_lowers, bytes_val, bytes_laws, Buffer, BufferRow, buffer_lowers, buffer_val, buffer_laws, Owned, Answer, HasNull, in_rest, trues, good, all_true, back, hold, unchanged, fpack3, compares, stands, tested, closes, hands, inside, ends2}
-use Rattle.odfilter_c.specs.Loans.{Loan, left_buffer, left_made, left_answer, of_bytes, of_buffer, holds}
+use Rattle.odfilter_c.specs.Loans.{Loan, left_buffer, left_made, left_answer, of_bytes, of_buffer, holds, borrowed_bytes, borrowed_buffer, borrowed_made, borrowed_answer, unless_null}
 use Rattle.odfilter_c.specs.Exports.{borrowed_by_read_schema, left_by_read_schema}
 use Rattle.handle_calls.specs.Reports.{ReadsSchema}
 use Rattle.handle_calls.specs.contracts.calls.read_schema as g
@@ -17,6 +17,7 @@ use Rattle.odfilter_c.proofs.null_buffer_calls.read_schema_to_null_at_null.Symbo
 use Rattle.odfilter_c.proofs.null_buffer_calls.read_schema_to_null_at_null.Met.{met as met-3}
 use Rattle.odfilter_c.specs.contracts.exports.odfilter_read_schema as f
 use Rattle.odfilter_c.proofs.exports.odfilter_read_schema.Statement.{statement}
+use base.Fml.{Fml, feq, fex}
 use Rattle.odfilter_c.proofs.exports.odfilter_read_schema.Code as code
 
 abbrev stayed : Stays f.ended.signature.params f.ended.kept
@@ -28,6 +29,21 @@ module _ {M : Type 1} {𝓤 : Ura M} (𝓛 : Logic 𝓤) (at_mem : Memory → SP
     (known-2 : Triple 𝓤 (C #call-2) (triple_of 𝓛 g-2.signature (g-2.spec 𝓛 at_mem run)))
     (known-3 : Triple 𝓤 (C #call-3) (triple_of 𝓛 g-3.signature (g-3.spec 𝓛 at_mem run))) (l : Loan) where
   open 𝓛 use {H}
+
+  -- what the call borrows, and what it leaves
+  abbrev Borrowed : Bytes → Buffer → Ptr → Ptr → Fml
+  Borrowed document names schema answer = fsep (borrowed_bytes l document) (fsep (borrowed_buffer l names) (fsep (borrowed_made l schema) (borrowed_answer l answer)))
+
+  abbrev Left : Bytes → Buffer → Ptr → Ptr → ℕ → Fml
+  Left document names schema answer result = unless_null (schema ∷ answer ∷ [])
+      (fsep (feq ℕ result 1) (Borrowed document names schema answer))
+      (fex (List ℕ) (λ names'. fex Owned (λ schema'. fex Answer (λ answer'.
+      fsep (left_buffer l names names') (fsep (left_made l schema schema') (fsep (left_answer l answer answer')
+      (holds (of_buffer names.at names.length l.buffer names'
+      ((schema' ≡ l.made) × ((answer' ≡ l.answer) × (result ≡ 1)))
+      (λ old new. of_bytes document.at document.length l.bytes
+      ((new ≡ old) × ((schema' ≡ l.made) × ((answer' ≡ l.answer) × (result ≡ 1))))
+      (λ bytes. ReadsSchema bytes old new schema' answer' result))))))))))
 
   abbrev G : Contract 𝓤
   G = triple_of 𝓛 g.signature (g.spec 𝓛 at_mem run)
@@ -48,9 +64,10 @@ module _ {M : Type 1} {𝓤 : Ura M} (𝓛 : Logic 𝓤) (at_mem : Memory → SP
   bound alloc document names schema answer = ((tt, tt, tt, (alloc, (document, (names, (schema, (answer, tt))))), (global_val alloc ∷ [], (bytes_val document ∷ [], (buffer_val names ∷ [], (ptr_val schema ∷ [], (ptr_val answer ∷ [], tt)))))), l)
 
   abbrev Walk : Global → Bytes → Buffer → Ptr → Ptr → Type 1
-  Walk alloc document names schema answer = Sq 𝓛 (‵ (flft l.lifetime l.share) ∷ ‵ (borrowed_by_read_schema l document names schema answer) ∷ ‵ (GlobalRow.own_val alloc (global_val alloc ∷ [])) ∷ []) (prop (WpFn 𝓤 H C Λ code.function (global_val alloc ∷ bytes_val document ∷ buffer_val names ∷ ptr_val schema ∷ ptr_val answer ∷ []) (W.post (bound alloc document names schema answer))))
+  Walk alloc document names schema answer = Sq 𝓛 (‵ (flft l.lifetime l.share) ∷ ‵ (Borrowed document names schema answer) ∷ ‵ (GlobalRow.own_val alloc (global_val alloc ∷ [])) ∷ []) (prop (WpFn 𝓤 H C Λ code.function (global_val alloc ∷ bytes_val document ∷ buffer_val names ∷ ptr_val schema ∷ ptr_val answer ∷ []) (W.post (bound alloc document names schema answer))))
 
-  ends : (alloc : Global) (document : Bytes) (names : Buffer) (schema : Ptr) (answer : Ptr) (v : Val) (x : ℕ) → Sq 𝓛 (‵ (left_by_read_schema l document names schema answer x) ∷ ‵ (u32.own_val x (v ∷ [])) ∷ ‵ (flft l.lifetime l.share) ∷ []) (prop (W.post (bound alloc document names schema answer) v))
+  ends : (alloc : Global) (document : Bytes) (names : Buffer) (schema : Ptr) (answer : Ptr) (v : Val) (x : ℕ) → Sq 𝓛 (‵ (Left document names schema answer x) ∷ ‵ (u32.own_val x (v ∷ [])) ∷ ‵ (flft l.lifetime l.share) ∷ []) (prop (W.post (bound alloc document names schema answer) v))
+  unfolding borrowed_by_read_schema left_by_read_schema
   ends alloc document names schema answer v x = move ! (2 ∷ 0 ∷ []) $ join ! $ move ! (1 ∷ []) $ use0 𝓛 (‵ (trues 5)) (all_true 𝓛 5) $ nothing ! $
       by ! (leaves 𝓛 f.ended stayed (f.clauses 𝓛 at_mem run) (bound alloc document names schema answer) v x (tt, (tt, (tt, (tt, (tt, tt))))) (tt, (tt, (tt, (tt, (tt, tt))))))
 
@@ -139,6 +156,7 @@ module _ {M : Type 1} {𝓤 : Ura M} (𝓛 : Logic 𝓤) (at_mem : Memory → SP
       fpack3 ! (List ℕ) Owned Answer (λ names' schema' answer'. fsep (left_buffer l (record { at = (block_ptr b1 o1); length = names-length }) names') (fsep (left_made l (block_ptr b2 o2) schema') (fsep (left_answer l (block_ptr b3 o3) answer') (holds (of_buffer (block_ptr b1 o1) names-length l.buffer names' ((schema' ≡ l.made) × ((answer' ≡ l.answer) × (x ≡ 1))) (λ old new. of_bytes (block_ptr b0 o0) document-length l.bytes ((new ≡ old) × ((schema' ≡ l.made) × ((answer' ≡ l.answer) × (x ≡ 1)))) (λ bytes. ReadsSchema bytes old new schema' answer' x))))))) ws.1.1.0 ws.1.1.1.0 ws.1.1.1.1.0 $ ends alloc (record { at = (block_ptr b0 o0); length = document-length }) (record { at = (block_ptr b1 o1); length = names-length }) (block_ptr b2 o2) (block_ptr b3 o3) v x))))))))
 
 pub odfilter_read_schema_spec : {M : Type 1} → statement M
+unfolding borrowed_by_read_schema
 odfilter_read_schema_spec 𝓤 𝓛 𝓜 𝓡 wired =
     let c = f.clauses 𝓛 𝓜.mem 𝓡.returns in let 𝓣 = tables 𝓤 𝓛.H 𝓜 𝓡 𝓡.env in
     proved 𝓛 f.ended stayed c 𝓜 𝓡 (Goes-dropped 𝓛 0 (plain (λ _. GlobalRow)) yes (λ κs x w. refl), (Goes-dropped 𝓛 0 (plain (λ _. BytesRow)) yes (λ κs x w. refl), (Goes-dropped 𝓛 0 (plain (λ _. BufferRow)) yes (λ κs x w. refl), (Goes-dropped 𝓛 0 (plain (λ _. RawPtr)) yes (λ κs x w. refl), (Goes-dropped 𝓛 0 (plain (λ _. RawPtr)) yes (λ κs x w. refl), tt)))))

@@ -1,6 +1,6 @@
 -- `set_bound` meets its contract: the addresses are tested one by one, and the call borrows what they point to.
 use Rattle.odfilter_c.proofs.Steps.{ℕ, ◌<◌, ◌^◌, [], ◌∷◌, refl, lit<, w32, w64, proved, leaves, none, Ura, SProp, id⊢, fsep, flft, Val, vint, vptr, Memory, Routine, WpFn, Calls, Loops, Fun, fact, tables, FmC, Logic, ‵, raw, ◌⊛◌, prop, Sq, ◌$◌, ◌∵◌, !, qed, move, keep, drop, use0, use1, use2, split, join, fsplit, fjoin, fpack, pick, await, by, enter, of_opd, addr, stop, no_more, and_then, alloc_all, pass_all, free_all, get, through, sets, u32, u64, yes, Is, shows, uint_Makes, uint_Lawful, uint_vals, uint_Tells, Ptr, RawPtr, block_ptr, null_ptr, ptr_val, Testable, rawptr_vals, rawptr_Tells, plain, nothing, owned, heard, peeks, Contract, Triple, calls_at_last, on_entry, triple_of, Stays, walk_of, stay_dropped, Goes-dropped, framed, Handle, HasNull, in_rest, trues, good, all_true, back, hold, unchanged, stands, tested, closes, inside, ends0}
-use Rattle.odfilter_c.specs.Loans.{Loan, left_judge, holds}
+use Rattle.odfilter_c.specs.Loans.{Loan, left_judge, holds, borrowed_judge, unless_null}
 use Rattle.odfilter_c.specs.Exports.{borrowed_by_set_bound, left_by_set_bound}
 use Rattle.handle_calls.specs.RowReports.{SetsBound}
 use Rattle.handle_calls.specs.contracts.calls.set_bound as g
@@ -8,6 +8,7 @@ use Rattle.handle_calls.proofs.calls.set_bound.Symbol.{name as #call}
 use Rattle.handle_calls.proofs.calls.set_bound.Met.{met as met}
 use Rattle.odfilter_c.specs.contracts.exports.odfilter_set_bound as f
 use Rattle.odfilter_c.proofs.exports.odfilter_set_bound.Statement.{statement}
+use base.Fml.{Fml, feq, fex}
 use Rattle.odfilter_c.proofs.exports.odfilter_set_bound.Code as code
 
 abbrev stayed : Stays f.ended.signature.params f.ended.kept
@@ -16,6 +17,16 @@ stayed = (stay_dropped _ yes, (stay_dropped _ yes, tt))
 module _ {M : Type 1} {𝓤 : Ura M} (𝓛 : Logic 𝓤) (at_mem : Memory → SProp 𝓤) (run : Routine → Fun 𝓤) (C : Calls 𝓤 𝓛.H) (Λ : Loops 𝓤 𝓛.H) (fm : FmC 𝓤 𝓛.H 𝓛.laws C)
     (known : Triple 𝓤 (C #call) (triple_of 𝓛 g.signature (g.spec 𝓛 at_mem run))) (l : Loan) where
   open 𝓛 use {H}
+
+  -- what the call borrows, and what it leaves
+  abbrev Borrowed : Ptr → Fml
+  Borrowed judge = borrowed_judge l judge
+
+  abbrev Left : Ptr → ℕ → ℕ → Fml
+  Left judge most result = unless_null (judge ∷ [])
+      (fsep (feq ℕ result 1) (Borrowed judge))
+      (fex Handle (λ judge'.
+      fsep (left_judge l judge judge') (holds (SetsBound l.judge judge' most result))))
 
   abbrev G : Contract 𝓤
   G = triple_of 𝓛 g.signature (g.spec 𝓛 at_mem run)
@@ -27,9 +38,10 @@ module _ {M : Type 1} {𝓤 : Ura M} (𝓛 : Logic 𝓤) (at_mem : Memory → SP
   bound judge most = ((tt, tt, tt, (judge, (most, tt)), (ptr_val judge ∷ [], (vint w64 most ∷ [], tt))), l)
 
   abbrev Walk : Ptr → ℕ → Type 1
-  Walk judge most = Sq 𝓛 (‵ (flft l.lifetime l.share) ∷ ‵ (borrowed_by_set_bound l judge) ∷ []) (prop (WpFn 𝓤 H C Λ code.function (ptr_val judge ∷ vint w64 most ∷ []) (W.post (bound judge most))))
+  Walk judge most = Sq 𝓛 (‵ (flft l.lifetime l.share) ∷ ‵ (Borrowed judge) ∷ []) (prop (WpFn 𝓤 H C Λ code.function (ptr_val judge ∷ vint w64 most ∷ []) (W.post (bound judge most))))
 
-  ends : (judge : Ptr) (most : ℕ) (v : Val) (x : ℕ) → Sq 𝓛 (‵ (left_by_set_bound l judge most x) ∷ ‵ (u32.own_val x (v ∷ [])) ∷ ‵ (flft l.lifetime l.share) ∷ []) (prop (W.post (bound judge most) v))
+  ends : (judge : Ptr) (most : ℕ) (v : Val) (x : ℕ) → Sq 𝓛 (‵ (Left judge most x) ∷ ‵ (u32.own_val x (v ∷ [])) ∷ ‵ (flft l.lifetime l.share) ∷ []) (prop (W.post (bound judge most) v))
+  unfolding borrowed_by_set_bound left_by_set_bound
   ends judge most v x = move ! (2 ∷ 0 ∷ []) $ join ! $ move ! (1 ∷ []) $ use0 𝓛 (‵ (trues 2)) (all_true 𝓛 2) $ nothing ! $
       by ! (leaves 𝓛 f.ended stayed (f.clauses 𝓛 at_mem run) (bound judge most) v x (tt, (tt, tt)) (tt, (tt, tt)))
 
@@ -58,6 +70,7 @@ module _ {M : Type 1} {𝓤 : Ura M} (𝓛 : Logic 𝓤) (at_mem : Memory → SP
       fpack ! Handle (λ judge'. fsep (left_judge l (block_ptr b0 o0) judge') (holds (SetsBound l.judge judge' most x))) ws.0 $ ends (block_ptr b0 o0) most v x))))))
 
 pub odfilter_set_bound_spec : {M : Type 1} → statement M
+unfolding borrowed_by_set_bound
 odfilter_set_bound_spec 𝓤 𝓛 𝓜 𝓡 wired =
     let c = f.clauses 𝓛 𝓜.mem 𝓡.returns in let 𝓣 = tables 𝓤 𝓛.H 𝓜 𝓡 𝓡.env in
     proved 𝓛 f.ended stayed c 𝓜 𝓡 (Goes-dropped 𝓛 0 (plain (λ _. RawPtr)) yes (λ κs x w. refl), (Goes-dropped 𝓛 0 (plain (λ _. u64)) yes (λ κs x w. refl), tt))

@@ -1,6 +1,6 @@
 -- `set_moment` meets its contract: the addresses are tested one by one, and the call borrows what they point to.
 use Rattle.odfilter_c.proofs.Steps.{◌≡◌, ℕ, ◌<◌, [], ◌∷◌, refl, lit<, w32, w64, proved, leaves, none, there_is, Ura, SProp, id⊢, fsep, flft, Val, vint, vptr, Memory, Routine, WpFn, Calls, Loops, Fun, fact, tables, FmC, Logic, ‵, raw, ◌⊛◌, prop, Sq, ◌$◌, ◌∵◌, !, qed, move, keep, drop, use0, use1, use2, split, join, fsplit, fjoin, fpack, pick, await, by, enter, of_opd, addr, stop, fld, no_more, and_then, branches, agg, sub, whole, alloc_all, pass_all, free_all, get, get_in, through, sets, u32, usize, yes, Typed, Is, shows, uint_Makes, uint_Lawful, Ptr, RawPtr, block_ptr, null_ptr, ptr_val, Testable, rawptr_vals, rawptr_Tells, slice_val, plain, nothing, owned, heard, peeks, Contract, Triple, calls_at_last, on_entry, triple_of, Stays, walk_of, stay_dropped, Goes-dropped, framed, Bytes, BytesRow, bytes_lowers, bytes_val, bytes_laws, Handle, HasNull, in_rest, trues, good, all_true, back, hold, unchanged, compares, stands, tested, closes, hands, inside, ends1}
-use Rattle.odfilter_c.specs.Loans.{Loan, left_judge, of_bytes, holds}
+use Rattle.odfilter_c.specs.Loans.{Loan, left_judge, of_bytes, holds, borrowed_judge, borrowed_bytes, unless_null}
 use Rattle.odfilter_c.specs.Exports.{borrowed_by_set_moment, left_by_set_moment}
 use Rattle.handle_calls.specs.RowReports.{SetsMoment}
 use Rattle.handle_calls.specs.contracts.calls.set_moment as g
@@ -11,6 +11,7 @@ use Rattle.odfilter_c.proofs.null_calls.set_moment_at_null.Symbol.{name as #call
 use Rattle.odfilter_c.proofs.null_calls.set_moment_at_null.Met.{met as met-1}
 use Rattle.odfilter_c.specs.contracts.exports.odfilter_set_moment as f
 use Rattle.odfilter_c.proofs.exports.odfilter_set_moment.Statement.{statement}
+use base.Fml.{Fml, feq, fex}
 use Rattle.odfilter_c.proofs.exports.odfilter_set_moment.Code as code
 
 abbrev stayed : Stays f.ended.signature.params f.ended.kept
@@ -20,6 +21,18 @@ module _ {M : Type 1} {𝓤 : Ura M} (𝓛 : Logic 𝓤) (at_mem : Memory → SP
     (known : Triple 𝓤 (C #call) (triple_of 𝓛 g.signature (g.spec 𝓛 at_mem run)))
     (known-1 : Triple 𝓤 (C #call-1) (triple_of 𝓛 g-1.signature (g-1.spec 𝓛 at_mem run))) (l : Loan) where
   open 𝓛 use {H}
+
+  -- what the call borrows, and what it leaves
+  abbrev Borrowed : Ptr → Bytes → Fml
+  Borrowed judge moment = fsep (borrowed_judge l judge) (borrowed_bytes l moment)
+
+  abbrev Left : Ptr → Bytes → ℕ → Fml
+  Left judge moment result = unless_null (judge ∷ [])
+      (fsep (feq ℕ result 1) (Borrowed judge moment))
+      (fex Handle (λ judge'.
+      fsep (left_judge l judge judge')
+      (holds (of_bytes moment.at moment.length l.bytes ((judge' ≡ l.judge) × (result ≡ 1))
+      (λ bytes. SetsMoment l.judge judge' bytes result)))))
 
   abbrev G : Contract 𝓤
   G = triple_of 𝓛 g.signature (g.spec 𝓛 at_mem run)
@@ -34,9 +47,10 @@ module _ {M : Type 1} {𝓤 : Ura M} (𝓛 : Logic 𝓤) (at_mem : Memory → SP
   bound judge moment = ((tt, tt, tt, (judge, (moment, tt)), (ptr_val judge ∷ [], (bytes_val moment ∷ [], tt))), l)
 
   abbrev Walk : Ptr → Bytes → Type 1
-  Walk judge moment = Sq 𝓛 (‵ (flft l.lifetime l.share) ∷ ‵ (borrowed_by_set_moment l judge moment) ∷ []) (prop (WpFn 𝓤 H C Λ code.function (ptr_val judge ∷ bytes_val moment ∷ []) (W.post (bound judge moment))))
+  Walk judge moment = Sq 𝓛 (‵ (flft l.lifetime l.share) ∷ ‵ (Borrowed judge moment) ∷ []) (prop (WpFn 𝓤 H C Λ code.function (ptr_val judge ∷ bytes_val moment ∷ []) (W.post (bound judge moment))))
 
-  ends : (judge : Ptr) (moment : Bytes) (v : Val) (x : ℕ) → Sq 𝓛 (‵ (left_by_set_moment l judge moment x) ∷ ‵ (u32.own_val x (v ∷ [])) ∷ ‵ (flft l.lifetime l.share) ∷ []) (prop (W.post (bound judge moment) v))
+  ends : (judge : Ptr) (moment : Bytes) (v : Val) (x : ℕ) → Sq 𝓛 (‵ (Left judge moment x) ∷ ‵ (u32.own_val x (v ∷ [])) ∷ ‵ (flft l.lifetime l.share) ∷ []) (prop (W.post (bound judge moment) v))
+  unfolding borrowed_by_set_moment left_by_set_moment
   ends judge moment v x = move ! (2 ∷ 0 ∷ []) $ join ! $ move ! (1 ∷ []) $ use0 𝓛 (‵ (trues 2)) (all_true 𝓛 2) $ nothing ! $
       by ! (leaves 𝓛 f.ended stayed (f.clauses 𝓛 at_mem run) (bound judge moment) v x (tt, (tt, tt)) (tt, (tt, tt)))
 
@@ -80,6 +94,7 @@ module _ {M : Type 1} {𝓤 : Ura M} (𝓛 : Logic 𝓤) (at_mem : Memory → SP
       fpack ! Handle (λ judge'. fsep (left_judge l (block_ptr b0 o0) judge') (holds (of_bytes (block_ptr b1 o1) moment-length l.bytes ((judge' ≡ l.judge) × (x ≡ 1)) (λ bytes. SetsMoment l.judge judge' bytes x)))) ws.0 $ ends (block_ptr b0 o0) (record { at = (block_ptr b1 o1); length = moment-length }) v x)))))))
 
 pub odfilter_set_moment_spec : {M : Type 1} → statement M
+unfolding borrowed_by_set_moment
 odfilter_set_moment_spec 𝓤 𝓛 𝓜 𝓡 wired =
     let c = f.clauses 𝓛 𝓜.mem 𝓡.returns in let 𝓣 = tables 𝓤 𝓛.H 𝓜 𝓡 𝓡.env in
     proved 𝓛 f.ended stayed c 𝓜 𝓡 (Goes-dropped 𝓛 0 (plain (λ _. RawPtr)) yes (λ κs x w. refl), (Goes-dropped 𝓛 0 (plain (λ _. BytesRow)) yes (λ κs x w. refl), tt))

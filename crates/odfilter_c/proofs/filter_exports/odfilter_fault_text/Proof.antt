@@ -1,6 +1,6 @@
 -- `fault_text` meets its contract: the addresses are tested one by one, and the call borrows what they point to.
 use Rattle.odfilter_c.proofs.Steps.{◌≡◌, ℕ, ◌<◌, ◌^◌, List, [], ◌∷◌, refl, lit<, w32, w64, proved, leaves, none, there_is, Ura, SProp, id⊢, ftrue, fsep, flft, Val, vint, vptr, vnull, Memory, Routine, WpFn, Calls, Loops, Fun, fact, tables, FmC, Logic, ‵, raw, ◌⊛◌, prop, Sq, ◌$◌, ◌∵◌, !, qed, move, keep, drop, use0, use1, use2, split, join, fsplit, fjoin, pick, await, by, enter, of_opd, addr, stop, fld, no_more, and_then, branches, agg, sub, whole, alloc_all, pass_all, free_all, get, get_in, through, sets, u32, usize, yes, Typed, Is, shows, uint_Makes, uint_Lawful, uint_vals, uint_Tells, Ptr, RawPtr, block_ptr, null_ptr, ptr_val, Testable, rawptr_vals, rawptr_Tells, slice_val, owns, types_at, plain, nothing, owned, heard, peeks, Contract, Triple, calls_at_last, triple_of, Stays, walk_of, stay_dropped, Goes-dropped, framed, Global, GlobalRow, global_lowers, global_val, global_laws, Bytes, BytesRow, bytes_lowers, bytes_val, bytes_laws, Buffer, BufferRow, buffer_lowers, buffer_val, buffer_laws, Answer, HasNull, in_rest, trues, good, all_true, back, hold, unchanged, fpack2, compares, stands, tested, closes, hands, inside, ends3}
-use Rattle.odfilter_c.specs.Loans.{Loan, left_buffer, left_answer, of_bytes, of_buffer, of_optional, holds}
+use Rattle.odfilter_c.specs.Loans.{Loan, left_buffer, left_answer, of_bytes, of_buffer, of_optional, holds, borrowed_fault, borrowed_handle, borrowed_bytes, borrowed_buffer, borrowed_answer, unless_null}
 use Rattle.odfilter_c.specs.FilterExports.{borrowed_by_fault_text, left_by_fault_text}
 use Rattle.report_calls.specs.Sentences.{ReportsSentenceFor, ReportsSentence}
 use Rattle.report_calls.specs.contracts.calls.fault_text as g
@@ -29,6 +29,7 @@ use Rattle.odfilter_c.proofs.length_calls.fault_text_alone_to_null_at_null.Symbo
 use Rattle.odfilter_c.proofs.length_calls.fault_text_alone_to_null_at_null.Met.{met as met-7}
 use Rattle.odfilter_c.specs.contracts.filter_exports.odfilter_fault_text as f
 use Rattle.odfilter_c.proofs.filter_exports.odfilter_fault_text.Statement.{statement}
+use base.Fml.{Fml, feq, fex}
 use Rattle.odfilter_c.proofs.filter_exports.odfilter_fault_text.Code as code
 
 abbrev stayed : Stays f.ended.signature.params f.ended.kept
@@ -44,6 +45,26 @@ module _ {M : Type 1} {𝓤 : Ura M} (𝓛 : Logic 𝓤) (at_mem : Memory → SP
     (known-6 : Triple 𝓤 (C #call-6) (triple_of 𝓛 g-6.signature (g-6.spec 𝓛 at_mem run)))
     (known-7 : Triple 𝓤 (C #call-7) (triple_of 𝓛 g-7.signature (g-7.spec 𝓛 at_mem run))) (l : Loan) where
   open 𝓛 use {H}
+
+  -- what the call borrows, and what it leaves
+  abbrev Borrowed : Ptr → Bytes → Buffer → Ptr → Ptr → Fml
+  Borrowed given text sentence fault answer = fsep (borrowed_handle l given) (fsep (borrowed_bytes l text) (fsep (borrowed_buffer l sentence)
+      (fsep (borrowed_fault l fault) (borrowed_answer l answer))))
+
+  abbrev Left : Ptr → ℕ → Bytes → Buffer → Ptr → Ptr → ℕ → Fml
+  Left given status text sentence fault answer result = unless_null (fault ∷ answer ∷ [])
+      (fsep (feq ℕ result 1) (Borrowed given text sentence fault answer))
+      (fex (List ℕ) (λ sentence'. fex Answer (λ answer'.
+      fsep (left_buffer l sentence sentence') (fsep (left_answer l answer answer')
+      (holds (of_optional given
+      (of_buffer sentence.at sentence.length l.buffer sentence' ((answer' ≡ l.answer) × (result ≡ 1))
+      (λ old new. of_bytes text.at text.length l.bytes
+      ((new ≡ old) × ((answer' ≡ l.answer) × (result ≡ 1)))
+      (λ bytes. ReportsSentence status bytes old new l.fault answer' result)))
+      (of_buffer sentence.at sentence.length l.buffer sentence' ((answer' ≡ l.answer) × (result ≡ 1))
+      (λ old new. of_bytes text.at text.length l.bytes
+      ((new ≡ old) × ((answer' ≡ l.answer) × (result ≡ 1)))
+      (λ bytes. ReportsSentenceFor l.handle status bytes old new l.fault answer' result)))))))))
 
   abbrev G : Contract 𝓤
   G = triple_of 𝓛 g.signature (g.spec 𝓛 at_mem run)
@@ -76,9 +97,10 @@ module _ {M : Type 1} {𝓤 : Ura M} (𝓛 : Logic 𝓤) (at_mem : Memory → SP
   bound alloc given status text sentence fault answer = ((tt, tt, tt, (alloc, (given, (status, (text, (sentence, (fault, (answer, tt))))))), (global_val alloc ∷ [], (ptr_val given ∷ [], (vint w32 status ∷ [], (bytes_val text ∷ [], (buffer_val sentence ∷ [], (ptr_val fault ∷ [], (ptr_val answer ∷ [], tt)))))))), l)
 
   abbrev Walk : Global → Ptr → ℕ → Bytes → Buffer → Ptr → Ptr → Type 1
-  Walk alloc given status text sentence fault answer = Sq 𝓛 (‵ (flft l.lifetime l.share) ∷ ‵ (borrowed_by_fault_text l given text sentence fault answer) ∷ ‵ (GlobalRow.own_val alloc (global_val alloc ∷ [])) ∷ []) (prop (WpFn 𝓤 H C Λ code.function (global_val alloc ∷ ptr_val given ∷ vint w32 status ∷ bytes_val text ∷ buffer_val sentence ∷ ptr_val fault ∷ ptr_val answer ∷ []) (W.post (bound alloc given status text sentence fault answer))))
+  Walk alloc given status text sentence fault answer = Sq 𝓛 (‵ (flft l.lifetime l.share) ∷ ‵ (Borrowed given text sentence fault answer) ∷ ‵ (GlobalRow.own_val alloc (global_val alloc ∷ [])) ∷ []) (prop (WpFn 𝓤 H C Λ code.function (global_val alloc ∷ ptr_val given ∷ vint w32 status ∷ bytes_val text ∷ buffer_val sentence ∷ ptr_val fault ∷ ptr_val answer ∷ []) (W.post (bound alloc given status text sentence fault answer))))
 
-  ends : (alloc : Global) (given : Ptr) (status : ℕ) (text : Bytes) (sentence : Buffer) (fault : Ptr) (answer : Ptr) (v : Val) (x : ℕ) → Sq 𝓛 (‵ (left_by_fault_text l given status text sentence fault answer x) ∷ ‵ (u32.own_val x (v ∷ [])) ∷ ‵ (flft l.lifetime l.share) ∷ []) (prop (W.post (bound alloc given status text sentence fault answer) v))
+  ends : (alloc : Global) (given : Ptr) (status : ℕ) (text : Bytes) (sentence : Buffer) (fault : Ptr) (answer : Ptr) (v : Val) (x : ℕ) → Sq 𝓛 (‵ (Left given status text sentence fault answer x) ∷ ‵ (u32.own_val x (v ∷ [])) ∷ ‵ (flft l.lifetime l.share) ∷ []) (prop (W.post (bound alloc given status text sentence fault answer) v))
+  unfolding borrowed_by_fault_text left_by_fault_text
   ends alloc given status text sentence fault answer v x = move ! (2 ∷ 0 ∷ []) $ join ! $ move ! (1 ∷ []) $ use0 𝓛 (‵ (trues 7)) (all_true 𝓛 7) $ nothing ! $
       by ! (leaves 𝓛 f.ended stayed (f.clauses 𝓛 at_mem run) (bound alloc given status text sentence fault answer) v x (tt, (tt, (tt, (tt, (tt, (tt, (tt, tt))))))) (tt, (tt, (tt, (tt, (tt, (tt, (tt, tt))))))))
 
@@ -283,6 +305,7 @@ module _ {M : Type 1} {𝓤 : Ura M} (𝓛 : Logic 𝓤) (at_mem : Memory → SP
   runs alloc (block_ptr b0 o0) status (block_ptr b1 o1) text-length (block_ptr b2 o2) sentence-length (block_ptr b3 o3) (block_ptr b4 o4) fits-alloc fits-status fits-text fits-sentence may-given may-text may-sentence may-fault may-answer = path alloc b0 o0 status b1 o1 text-length b2 o2 sentence-length b3 o3 b4 o4 fits-alloc fits-status fits-text fits-sentence may-given may-text may-sentence may-fault may-answer
 
 pub odfilter_fault_text_spec : {M : Type 1} → statement M
+unfolding borrowed_by_fault_text
 odfilter_fault_text_spec 𝓤 𝓛 𝓜 𝓡 wired =
     let c = f.clauses 𝓛 𝓜.mem 𝓡.returns in let 𝓣 = tables 𝓤 𝓛.H 𝓜 𝓡 𝓡.env in
     proved 𝓛 f.ended stayed c 𝓜 𝓡 (Goes-dropped 𝓛 0 (plain (λ _. GlobalRow)) yes (λ κs x w. refl), (Goes-dropped 𝓛 0 (plain (λ _. RawPtr)) yes (λ κs x w. refl), (Goes-dropped 𝓛 0 (plain (λ _. u32)) yes (λ κs x w. refl), (Goes-dropped 𝓛 0 (plain (λ _. BytesRow)) yes (λ κs x w. refl), (Goes-dropped 𝓛 0 (plain (λ _. BufferRow)) yes (λ κs x w. refl), (Goes-dropped 𝓛 0 (plain (λ _. RawPtr)) yes (λ κs x w. refl), (Goes-dropped 𝓛 0 (plain (λ _. RawPtr)) yes (λ κs x w. refl), tt)))))))

@@ -1,6 +1,6 @@
 -- `lambda_depth` meets its contract: the addresses are tested one by one, and the call borrows what they point to.
 use Rattle.odfilter_c.proofs.Steps.{ℕ, ◌<◌, [], ◌∷◌, refl, lit<, w32, proved, leaves, none, there_is, Ura, SProp, id⊢, fsep, flft, Val, vint, vptr, Memory, Routine, WpFn, Calls, Loops, Fun, fact, tables, FmC, Logic, ‵, raw, ◌⊛◌, prop, Sq, ◌$◌, ◌∵◌, !, qed, move, keep, drop, use0, use1, use2, split, join, fsplit, fjoin, fpack, pick, await, by, enter, of_opd, addr, stop, no_more, and_then, alloc_all, pass_all, free_all, get, through, sets, u32, yes, Is, shows, uint_Lawful, Ptr, RawPtr, block_ptr, null_ptr, ptr_val, Testable, rawptr_vals, rawptr_Tells, plain, nothing, heard, peeks, Contract, Triple, calls_at_last, on_entry, triple_of, Stays, walk_of, stay_dropped, Goes-dropped, framed, Answer, HasNull, in_rest, trues, good, all_true, back, hold, unchanged, stands, tested, closes, inside, ends0}
-use Rattle.odfilter_c.specs.Loans.{Loan, left_answer, holds}
+use Rattle.odfilter_c.specs.Loans.{Loan, left_answer, holds, borrowed_handle, borrowed_answer, unless_null}
 use Rattle.odfilter_c.specs.FilterExports.{borrowed_by_lambda_depth, left_by_lambda_depth}
 use Rattle.handle_calls.specs.Costs.{ReportsLambdaDepth}
 use Rattle.handle_calls.specs.contracts.calls.lambda_depth as g
@@ -8,6 +8,7 @@ use Rattle.handle_calls.proofs.calls.lambda_depth.Symbol.{name as #call}
 use Rattle.handle_calls.proofs.calls.lambda_depth.Met.{met as met}
 use Rattle.odfilter_c.specs.contracts.filter_exports.odfilter_lambda_depth as f
 use Rattle.odfilter_c.proofs.filter_exports.odfilter_lambda_depth.Statement.{statement}
+use base.Fml.{Fml, feq, fex}
 use Rattle.odfilter_c.proofs.filter_exports.odfilter_lambda_depth.Code as code
 
 abbrev stayed : Stays f.ended.signature.params f.ended.kept
@@ -16,6 +17,16 @@ stayed = (stay_dropped _ yes, (stay_dropped _ yes, tt))
 module _ {M : Type 1} {𝓤 : Ura M} (𝓛 : Logic 𝓤) (at_mem : Memory → SProp 𝓤) (run : Routine → Fun 𝓤) (C : Calls 𝓤 𝓛.H) (Λ : Loops 𝓤 𝓛.H) (fm : FmC 𝓤 𝓛.H 𝓛.laws C)
     (known : Triple 𝓤 (C #call) (triple_of 𝓛 g.signature (g.spec 𝓛 at_mem run))) (l : Loan) where
   open 𝓛 use {H}
+
+  -- what the call borrows, and what it leaves
+  abbrev Borrowed : Ptr → Ptr → Fml
+  Borrowed filter answer = fsep (borrowed_handle l filter) (borrowed_answer l answer)
+
+  abbrev Left : Ptr → Ptr → ℕ → Fml
+  Left filter answer result = unless_null (filter ∷ answer ∷ [])
+      (fsep (feq ℕ result 1) (Borrowed filter answer))
+      (fex Answer (λ answer'.
+      fsep (left_answer l answer answer') (holds (ReportsLambdaDepth l.handle answer' result))))
 
   abbrev G : Contract 𝓤
   G = triple_of 𝓛 g.signature (g.spec 𝓛 at_mem run)
@@ -27,9 +38,10 @@ module _ {M : Type 1} {𝓤 : Ura M} (𝓛 : Logic 𝓤) (at_mem : Memory → SP
   bound filter answer = ((tt, tt, tt, (filter, (answer, tt)), (ptr_val filter ∷ [], (ptr_val answer ∷ [], tt))), l)
 
   abbrev Walk : Ptr → Ptr → Type 1
-  Walk filter answer = Sq 𝓛 (‵ (flft l.lifetime l.share) ∷ ‵ (borrowed_by_lambda_depth l filter answer) ∷ []) (prop (WpFn 𝓤 H C Λ code.function (ptr_val filter ∷ ptr_val answer ∷ []) (W.post (bound filter answer))))
+  Walk filter answer = Sq 𝓛 (‵ (flft l.lifetime l.share) ∷ ‵ (Borrowed filter answer) ∷ []) (prop (WpFn 𝓤 H C Λ code.function (ptr_val filter ∷ ptr_val answer ∷ []) (W.post (bound filter answer))))
 
-  ends : (filter : Ptr) (answer : Ptr) (v : Val) (x : ℕ) → Sq 𝓛 (‵ (left_by_lambda_depth l filter answer x) ∷ ‵ (u32.own_val x (v ∷ [])) ∷ ‵ (flft l.lifetime l.share) ∷ []) (prop (W.post (bound filter answer) v))
+  ends : (filter : Ptr) (answer : Ptr) (v : Val) (x : ℕ) → Sq 𝓛 (‵ (Left filter answer x) ∷ ‵ (u32.own_val x (v ∷ [])) ∷ ‵ (flft l.lifetime l.share) ∷ []) (prop (W.post (bound filter answer) v))
+  unfolding borrowed_by_lambda_depth left_by_lambda_depth
   ends filter answer v x = move ! (2 ∷ 0 ∷ []) $ join ! $ move ! (1 ∷ []) $ use0 𝓛 (‵ (trues 2)) (all_true 𝓛 2) $ nothing ! $
       by ! (leaves 𝓛 f.ended stayed (f.clauses 𝓛 at_mem run) (bound filter answer) v x (tt, (tt, tt)) (tt, (tt, tt)))
 
@@ -62,6 +74,7 @@ module _ {M : Type 1} {𝓤 : Ura M} (𝓛 : Logic 𝓤) (at_mem : Memory → SP
       fpack ! Answer (λ answer'. fsep (left_answer l (block_ptr b1 o1) answer') (holds (ReportsLambdaDepth l.handle answer' x))) ws.1.0 $ ends (block_ptr b0 o0) (block_ptr b1 o1) v x))))))
 
 pub odfilter_lambda_depth_spec : {M : Type 1} → statement M
+unfolding borrowed_by_lambda_depth
 odfilter_lambda_depth_spec 𝓤 𝓛 𝓜 𝓡 wired =
     let c = f.clauses 𝓛 𝓜.mem 𝓡.returns in let 𝓣 = tables 𝓤 𝓛.H 𝓜 𝓡 𝓡.env in
     proved 𝓛 f.ended stayed c 𝓜 𝓡 (Goes-dropped 𝓛 0 (plain (λ _. RawPtr)) yes (λ κs x w. refl), (Goes-dropped 𝓛 0 (plain (λ _. RawPtr)) yes (λ κs x w. refl), tt))

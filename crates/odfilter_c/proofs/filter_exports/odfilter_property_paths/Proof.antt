@@ -1,6 +1,6 @@
 -- `property_paths` meets its contract: the addresses are tested one by one, and the call borrows what they point to.
 use Rattle.odfilter_c.proofs.Steps.{◌≡◌, ℕ, ◌<◌, List, [], ◌∷◌, refl, lit<, w32, w64, proved, leaves, none, there_is, Ura, SProp, id⊢, ftrue, fsep, flft, Val, vint, vptr, Memory, Routine, WpFn, Calls, Loops, Fun, fact, tables, FmC, Logic, ‵, raw, ◌⊛◌, prop, Sq, ◌$◌, ◌∵◌, !, qed, move, keep, drop, use0, use1, use2, split, join, fsplit, fjoin, pick, await, by, enter, of_opd, addr, stop, fld, no_more, and_then, branches, agg, sub, whole, alloc_all, pass_all, free_all, get, get_in, through, sets, u32, usize, yes, Typed, Is, shows, uint_Makes, uint_Lawful, Ptr, RawPtr, block_ptr, null_ptr, ptr_val, Testable, rawptr_vals, rawptr_Tells, slice_val, owns, types_at, plain, nothing, owned, heard, peeks, Contract, Triple, calls_at_last, triple_of, Stays, walk_of, stay_dropped, Goes-dropped, framed, Global, GlobalRow, global_lowers, global_val, global_laws, Buffer, BufferRow, buffer_lowers, buffer_val, buffer_laws, Answer, HasNull, in_rest, trues, good, all_true, back, hold, unchanged, fpack2, compares, stands, tested, closes, hands, inside, ends1}
-use Rattle.odfilter_c.specs.Loans.{Loan, left_buffer, left_answer, of_buffer, holds}
+use Rattle.odfilter_c.specs.Loans.{Loan, left_buffer, left_answer, of_buffer, holds, borrowed_handle, borrowed_buffer, borrowed_answer, unless_null}
 use Rattle.odfilter_c.specs.FilterExports.{borrowed_by_property_paths, left_by_property_paths}
 use Rattle.handle_calls.specs.Costs.{ReportsPaths}
 use Rattle.handle_calls.specs.contracts.calls.property_paths as g
@@ -11,6 +11,7 @@ use Rattle.odfilter_c.proofs.length_calls.property_paths_to_null.Symbol.{name as
 use Rattle.odfilter_c.proofs.length_calls.property_paths_to_null.Met.{met as met-1}
 use Rattle.odfilter_c.specs.contracts.filter_exports.odfilter_property_paths as f
 use Rattle.odfilter_c.proofs.filter_exports.odfilter_property_paths.Statement.{statement}
+use base.Fml.{Fml, feq, fex}
 use Rattle.odfilter_c.proofs.filter_exports.odfilter_property_paths.Code as code
 
 abbrev stayed : Stays f.ended.signature.params f.ended.kept
@@ -20,6 +21,18 @@ module _ {M : Type 1} {𝓤 : Ura M} (𝓛 : Logic 𝓤) (at_mem : Memory → SP
     (known : Triple 𝓤 (C #call) (triple_of 𝓛 g.signature (g.spec 𝓛 at_mem run)))
     (known-1 : Triple 𝓤 (C #call-1) (triple_of 𝓛 g-1.signature (g-1.spec 𝓛 at_mem run))) (l : Loan) where
   open 𝓛 use {H}
+
+  -- what the call borrows, and what it leaves
+  abbrev Borrowed : Ptr → Buffer → Ptr → Fml
+  Borrowed filter paths answer = fsep (borrowed_handle l filter) (fsep (borrowed_buffer l paths) (borrowed_answer l answer))
+
+  abbrev Left : Ptr → Buffer → Ptr → ℕ → Fml
+  Left filter paths answer result = unless_null (filter ∷ answer ∷ [])
+      (fsep (feq ℕ result 1) (Borrowed filter paths answer))
+      (fex (List ℕ) (λ paths'. fex Answer (λ answer'.
+      fsep (left_buffer l paths paths') (fsep (left_answer l answer answer')
+      (holds (of_buffer paths.at paths.length l.buffer paths' ((answer' ≡ l.answer) × (result ≡ 1))
+      (λ old new. ReportsPaths l.handle old new answer' result)))))))
 
   abbrev G : Contract 𝓤
   G = triple_of 𝓛 g.signature (g.spec 𝓛 at_mem run)
@@ -34,9 +47,10 @@ module _ {M : Type 1} {𝓤 : Ura M} (𝓛 : Logic 𝓤) (at_mem : Memory → SP
   bound alloc filter paths answer = ((tt, tt, tt, (alloc, (filter, (paths, (answer, tt)))), (global_val alloc ∷ [], (ptr_val filter ∷ [], (buffer_val paths ∷ [], (ptr_val answer ∷ [], tt))))), l)
 
   abbrev Walk : Global → Ptr → Buffer → Ptr → Type 1
-  Walk alloc filter paths answer = Sq 𝓛 (‵ (flft l.lifetime l.share) ∷ ‵ (borrowed_by_property_paths l filter paths answer) ∷ ‵ (GlobalRow.own_val alloc (global_val alloc ∷ [])) ∷ []) (prop (WpFn 𝓤 H C Λ code.function (global_val alloc ∷ ptr_val filter ∷ buffer_val paths ∷ ptr_val answer ∷ []) (W.post (bound alloc filter paths answer))))
+  Walk alloc filter paths answer = Sq 𝓛 (‵ (flft l.lifetime l.share) ∷ ‵ (Borrowed filter paths answer) ∷ ‵ (GlobalRow.own_val alloc (global_val alloc ∷ [])) ∷ []) (prop (WpFn 𝓤 H C Λ code.function (global_val alloc ∷ ptr_val filter ∷ buffer_val paths ∷ ptr_val answer ∷ []) (W.post (bound alloc filter paths answer))))
 
-  ends : (alloc : Global) (filter : Ptr) (paths : Buffer) (answer : Ptr) (v : Val) (x : ℕ) → Sq 𝓛 (‵ (left_by_property_paths l filter paths answer x) ∷ ‵ (u32.own_val x (v ∷ [])) ∷ ‵ (flft l.lifetime l.share) ∷ []) (prop (W.post (bound alloc filter paths answer) v))
+  ends : (alloc : Global) (filter : Ptr) (paths : Buffer) (answer : Ptr) (v : Val) (x : ℕ) → Sq 𝓛 (‵ (Left filter paths answer x) ∷ ‵ (u32.own_val x (v ∷ [])) ∷ ‵ (flft l.lifetime l.share) ∷ []) (prop (W.post (bound alloc filter paths answer) v))
+  unfolding borrowed_by_property_paths left_by_property_paths
   ends alloc filter paths answer v x = move ! (2 ∷ 0 ∷ []) $ join ! $ move ! (1 ∷ []) $ use0 𝓛 (‵ (trues 4)) (all_true 𝓛 4) $ nothing ! $
       by ! (leaves 𝓛 f.ended stayed (f.clauses 𝓛 at_mem run) (bound alloc filter paths answer) v x (tt, (tt, (tt, (tt, tt)))) (tt, (tt, (tt, (tt, tt)))))
 
@@ -86,6 +100,7 @@ module _ {M : Type 1} {𝓤 : Ura M} (𝓛 : Logic 𝓤) (at_mem : Memory → SP
       fpack2 ! (List ℕ) Answer (λ paths' answer'. fsep (left_buffer l (record { at = (block_ptr b1 o1); length = paths-length }) paths') (fsep (left_answer l (block_ptr b2 o2) answer') (holds (of_buffer (block_ptr b1 o1) paths-length l.buffer paths' ((answer' ≡ l.answer) × (x ≡ 1)) (λ old new. ReportsPaths l.handle old new answer' x))))) ws.1.1.0 ws.1.1.1.0 $ ends alloc (block_ptr b0 o0) (record { at = (block_ptr b1 o1); length = paths-length }) (block_ptr b2 o2) v x)))))))
 
 pub odfilter_property_paths_spec : {M : Type 1} → statement M
+unfolding borrowed_by_property_paths
 odfilter_property_paths_spec 𝓤 𝓛 𝓜 𝓡 wired =
     let c = f.clauses 𝓛 𝓜.mem 𝓡.returns in let 𝓣 = tables 𝓤 𝓛.H 𝓜 𝓡 𝓡.env in
     proved 𝓛 f.ended stayed c 𝓜 𝓡 (Goes-dropped 𝓛 0 (plain (λ _. GlobalRow)) yes (λ κs x w. refl), (Goes-dropped 𝓛 0 (plain (λ _. RawPtr)) yes (λ κs x w. refl), (Goes-dropped 𝓛 0 (plain (λ _. BufferRow)) yes (λ κs x w. refl), (Goes-dropped 𝓛 0 (plain (λ _. RawPtr)) yes (λ κs x w. refl), tt))))

@@ -1,6 +1,6 @@
 -- `share` meets its contract: the addresses are tested one by one, and the call borrows what they point to.
 use Rattle.odfilter_c.proofs.Steps.{ℕ, ◌<◌, [], ◌∷◌, refl, lit<, w32, proved, leaves, none, there_is, Ura, SProp, id⊢, ftrue, fsep, flft, Val, vint, vptr, Memory, Routine, WpFn, Calls, Loops, Fun, fact, tables, FmC, Logic, ‵, raw, ◌⊛◌, prop, Sq, ◌$◌, ◌∵◌, !, qed, move, keep, drop, use0, use1, use2, split, join, fsplit, fjoin, fpack, pick, await, by, enter, of_opd, addr, stop, no_more, and_then, alloc_all, pass_all, free_all, get, through, sets, u32, yes, Typed, Is, shows, uint_Lawful, Ptr, RawPtr, block_ptr, null_ptr, ptr_val, Testable, rawptr_vals, rawptr_Tells, owns, types_at, plain, nothing, heard, peeks, Contract, Triple, calls_at_last, triple_of, Stays, walk_of, stay_dropped, Goes-dropped, framed, Global, GlobalRow, global_lowers, global_val, global_laws, Owned, HasNull, in_rest, trues, good, all_true, back, hold, unchanged, stands, tested, closes, inside, ends0}
-use Rattle.odfilter_c.specs.Loans.{Loan, left_made, holds}
+use Rattle.odfilter_c.specs.Loans.{Loan, left_made, holds, borrowed_handle, borrowed_made, unless_null}
 use Rattle.odfilter_c.specs.JudgeExports.{borrowed_by_share, left_by_share}
 use Rattle.handle_calls.specs.Shares.{Shares}
 use Rattle.handle_calls.specs.contracts.calls.share as g
@@ -8,6 +8,7 @@ use Rattle.handle_calls.proofs.calls.share.Symbol.{name as #call}
 use Rattle.handle_calls.proofs.calls.share.Met.{met as met}
 use Rattle.odfilter_c.specs.contracts.judge_exports.odfilter_share as f
 use Rattle.odfilter_c.proofs.judge_exports.odfilter_share.Statement.{statement}
+use base.Fml.{Fml, feq, fex}
 use Rattle.odfilter_c.proofs.judge_exports.odfilter_share.Code as code
 
 abbrev stayed : Stays f.ended.signature.params f.ended.kept
@@ -16,6 +17,16 @@ stayed = (stay_dropped _ yes, (stay_dropped _ yes, (stay_dropped _ yes, tt)))
 module _ {M : Type 1} {𝓤 : Ura M} (𝓛 : Logic 𝓤) (at_mem : Memory → SProp 𝓤) (run : Routine → Fun 𝓤) (C : Calls 𝓤 𝓛.H) (Λ : Loops 𝓤 𝓛.H) (fm : FmC 𝓤 𝓛.H 𝓛.laws C)
     (known : Triple 𝓤 (C #call) (triple_of 𝓛 g.signature (g.spec 𝓛 at_mem run))) (l : Loan) where
   open 𝓛 use {H}
+
+  -- what the call borrows, and what it leaves
+  abbrev Borrowed : Ptr → Ptr → Fml
+  Borrowed handle made = fsep (borrowed_handle l handle) (borrowed_made l made)
+
+  abbrev Left : Ptr → Ptr → ℕ → Fml
+  Left handle made result = unless_null (handle ∷ made ∷ [])
+      (fsep (feq ℕ result 1) (Borrowed handle made))
+      (fex Owned (λ made'.
+      fsep (left_made l made made') (holds (Shares l.handle made' result))))
 
   abbrev G : Contract 𝓤
   G = triple_of 𝓛 g.signature (g.spec 𝓛 at_mem run)
@@ -27,9 +38,10 @@ module _ {M : Type 1} {𝓤 : Ura M} (𝓛 : Logic 𝓤) (at_mem : Memory → SP
   bound alloc handle made = ((tt, tt, tt, (alloc, (handle, (made, tt))), (global_val alloc ∷ [], (ptr_val handle ∷ [], (ptr_val made ∷ [], tt)))), l)
 
   abbrev Walk : Global → Ptr → Ptr → Type 1
-  Walk alloc handle made = Sq 𝓛 (‵ (flft l.lifetime l.share) ∷ ‵ (borrowed_by_share l handle made) ∷ ‵ (GlobalRow.own_val alloc (global_val alloc ∷ [])) ∷ []) (prop (WpFn 𝓤 H C Λ code.function (global_val alloc ∷ ptr_val handle ∷ ptr_val made ∷ []) (W.post (bound alloc handle made))))
+  Walk alloc handle made = Sq 𝓛 (‵ (flft l.lifetime l.share) ∷ ‵ (Borrowed handle made) ∷ ‵ (GlobalRow.own_val alloc (global_val alloc ∷ [])) ∷ []) (prop (WpFn 𝓤 H C Λ code.function (global_val alloc ∷ ptr_val handle ∷ ptr_val made ∷ []) (W.post (bound alloc handle made))))
 
-  ends : (alloc : Global) (handle : Ptr) (made : Ptr) (v : Val) (x : ℕ) → Sq 𝓛 (‵ (left_by_share l handle made x) ∷ ‵ (u32.own_val x (v ∷ [])) ∷ ‵ (flft l.lifetime l.share) ∷ []) (prop (W.post (bound alloc handle made) v))
+  ends : (alloc : Global) (handle : Ptr) (made : Ptr) (v : Val) (x : ℕ) → Sq 𝓛 (‵ (Left handle made x) ∷ ‵ (u32.own_val x (v ∷ [])) ∷ ‵ (flft l.lifetime l.share) ∷ []) (prop (W.post (bound alloc handle made) v))
+  unfolding borrowed_by_share left_by_share
   ends alloc handle made v x = move ! (2 ∷ 0 ∷ []) $ join ! $ move ! (1 ∷ []) $ use0 𝓛 (‵ (trues 3)) (all_true 𝓛 3) $ nothing ! $
       by ! (leaves 𝓛 f.ended stayed (f.clauses 𝓛 at_mem run) (bound alloc handle made) v x (tt, (tt, (tt, tt))) (tt, (tt, (tt, tt))))
 
@@ -62,6 +74,7 @@ module _ {M : Type 1} {𝓤 : Ura M} (𝓛 : Logic 𝓤) (at_mem : Memory → SP
       fpack ! Owned (λ made'. fsep (left_made l (block_ptr b1 o1) made') (holds (Shares l.handle made' x))) ws.1.1.0 $ ends alloc (block_ptr b0 o0) (block_ptr b1 o1) v x))))))
 
 pub odfilter_share_spec : {M : Type 1} → statement M
+unfolding borrowed_by_share
 odfilter_share_spec 𝓤 𝓛 𝓜 𝓡 wired =
     let c = f.clauses 𝓛 𝓜.mem 𝓡.returns in let 𝓣 = tables 𝓤 𝓛.H 𝓜 𝓡 𝓡.env in
     proved 𝓛 f.ended stayed c 𝓜 𝓡 (Goes-dropped 𝓛 0 (plain (λ _. GlobalRow)) yes (λ κs x w. refl), (Goes-dropped 𝓛 0 (plain (λ _. RawPtr)) yes (λ κs x w. refl), (Goes-dropped 𝓛 0 (plain (λ _. RawPtr)) yes (λ κs x w. refl), tt)))

@@ -1,6 +1,6 @@
 -- `filter_lines` meets its contract: the addresses are tested one by one, and the call borrows what they point to.
 use Rattle.odfilter_c.proofs.Steps.{◌≡◌, ℕ, ◌<◌, List, [], ◌∷◌, refl, lit<, w32, w64, proved, leaves, none, there_is, Ura, SProp, id⊢, fsep, flft, Val, vint, vptr, Memory, Routine, WpFn, Calls, Loops, Fun, fact, tables, FmC, Logic, ‵, raw, ◌⊛◌, prop, Sq, ◌$◌, ◌∵◌, !, qed, move, keep, drop, use0, use1, use2, split, join, fsplit, fjoin, pick, await, by, enter, of_opd, addr, stop, fld, no_more, and_then, branches, agg, sub, whole, alloc_all, pass_all, free_all, get, get_in, through, sets, u32, usize, yes, Typed, Is, shows, uint_Makes, uint_Lawful, Ptr, RawPtr, block_ptr, null_ptr, ptr_val, Testable, rawptr_vals, rawptr_Tells, slice_val, plain, nothing, owned, heard, peeks, Contract, Triple, calls_at_last, on_entry, triple_of, Stays, walk_of, stay_dropped, Goes-dropped, framed, Bytes, BytesRow, bytes_lowers, bytes_val, bytes_laws, Buffer, BufferRow, buffer_lowers, buffer_val, buffer_laws, Handle, Answer, HasNull, in_rest, trues, good, all_true, back, hold, unchanged, fpack3, compares, stands, tested, closes, hands, inside, ends2}
-use Rattle.odfilter_c.specs.Loans.{Loan, left_judge, left_buffer, left_answer, of_bytes, of_buffer, holds}
+use Rattle.odfilter_c.specs.Loans.{Loan, left_judge, left_buffer, left_answer, of_bytes, of_buffer, holds, borrowed_handle, borrowed_judge, borrowed_bytes, borrowed_buffer, borrowed_answer, unless_null}
 use Rattle.odfilter_c.specs.LineExports.{borrowed_by_filter_lines, left_by_filter_lines}
 use Rattle.handle_calls.specs.RowReports.{FiltersLines}
 use Rattle.handle_calls.specs.contracts.calls.filter_lines as g
@@ -17,6 +17,7 @@ use Rattle.odfilter_c.proofs.null_buffer_calls.filter_lines_to_null_at_null.Symb
 use Rattle.odfilter_c.proofs.null_buffer_calls.filter_lines_to_null_at_null.Met.{met as met-3}
 use Rattle.odfilter_c.specs.contracts.line_exports.odfilter_filter_lines as f
 use Rattle.odfilter_c.proofs.line_exports.odfilter_filter_lines.Statement.{statement}
+use base.Fml.{Fml, feq, fex}
 use Rattle.odfilter_c.proofs.line_exports.odfilter_filter_lines.Code as code
 
 abbrev stayed : Stays f.ended.signature.params f.ended.kept
@@ -28,6 +29,22 @@ module _ {M : Type 1} {𝓤 : Ura M} (𝓛 : Logic 𝓤) (at_mem : Memory → SP
     (known-2 : Triple 𝓤 (C #call-2) (triple_of 𝓛 g-2.signature (g-2.spec 𝓛 at_mem run)))
     (known-3 : Triple 𝓤 (C #call-3) (triple_of 𝓛 g-3.signature (g-3.spec 𝓛 at_mem run))) (l : Loan) where
   open 𝓛 use {H}
+
+  -- what the call borrows, and what it leaves
+  abbrev Borrowed : Ptr → Ptr → Bytes → Buffer → Ptr → Fml
+  Borrowed filter judge rows kept answer = fsep (borrowed_handle l filter) (fsep (borrowed_judge l judge) (fsep (borrowed_bytes l rows)
+      (fsep (borrowed_buffer l kept) (borrowed_answer l answer))))
+
+  abbrev Left : Ptr → Ptr → Bytes → Buffer → Ptr → ℕ → Fml
+  Left filter judge rows kept answer result = unless_null (filter ∷ judge ∷ answer ∷ [])
+      (fsep (feq ℕ result 1) (Borrowed filter judge rows kept answer))
+      (fex Handle (λ judge'. fex (List ℕ) (λ kept'. fex Answer (λ answer'.
+      fsep (left_judge l judge judge') (fsep (left_buffer l kept kept') (fsep (left_answer l answer answer')
+      (holds (of_buffer kept.at kept.length l.buffer kept'
+      ((judge' ≡ l.judge) × ((answer' ≡ l.answer) × (result ≡ 1)))
+      (λ old new. of_bytes rows.at rows.length l.bytes
+      ((judge' ≡ l.judge) × ((new ≡ old) × ((answer' ≡ l.answer) × (result ≡ 1))))
+      (λ bytes. FiltersLines l.handle l.judge judge' bytes old new answer' result))))))))))
 
   abbrev G : Contract 𝓤
   G = triple_of 𝓛 g.signature (g.spec 𝓛 at_mem run)
@@ -48,9 +65,10 @@ module _ {M : Type 1} {𝓤 : Ura M} (𝓛 : Logic 𝓤) (at_mem : Memory → SP
   bound filter judge rows kept answer = ((tt, tt, tt, (filter, (judge, (rows, (kept, (answer, tt))))), (ptr_val filter ∷ [], (ptr_val judge ∷ [], (bytes_val rows ∷ [], (buffer_val kept ∷ [], (ptr_val answer ∷ [], tt)))))), l)
 
   abbrev Walk : Ptr → Ptr → Bytes → Buffer → Ptr → Type 1
-  Walk filter judge rows kept answer = Sq 𝓛 (‵ (flft l.lifetime l.share) ∷ ‵ (borrowed_by_filter_lines l filter judge rows kept answer) ∷ []) (prop (WpFn 𝓤 H C Λ code.function (ptr_val filter ∷ ptr_val judge ∷ bytes_val rows ∷ buffer_val kept ∷ ptr_val answer ∷ []) (W.post (bound filter judge rows kept answer))))
+  Walk filter judge rows kept answer = Sq 𝓛 (‵ (flft l.lifetime l.share) ∷ ‵ (Borrowed filter judge rows kept answer) ∷ []) (prop (WpFn 𝓤 H C Λ code.function (ptr_val filter ∷ ptr_val judge ∷ bytes_val rows ∷ buffer_val kept ∷ ptr_val answer ∷ []) (W.post (bound filter judge rows kept answer))))
 
-  ends : (filter : Ptr) (judge : Ptr) (rows : Bytes) (kept : Buffer) (answer : Ptr) (v : Val) (x : ℕ) → Sq 𝓛 (‵ (left_by_filter_lines l filter judge rows kept answer x) ∷ ‵ (u32.own_val x (v ∷ [])) ∷ ‵ (flft l.lifetime l.share) ∷ []) (prop (W.post (bound filter judge rows kept answer) v))
+  ends : (filter : Ptr) (judge : Ptr) (rows : Bytes) (kept : Buffer) (answer : Ptr) (v : Val) (x : ℕ) → Sq 𝓛 (‵ (Left filter judge rows kept answer x) ∷ ‵ (u32.own_val x (v ∷ [])) ∷ ‵ (flft l.lifetime l.share) ∷ []) (prop (W.post (bound filter judge rows kept answer) v))
+  unfolding borrowed_by_filter_lines left_by_filter_lines
   ends filter judge rows kept answer v x = move ! (2 ∷ 0 ∷ []) $ join ! $ move ! (1 ∷ []) $ use0 𝓛 (‵ (trues 5)) (all_true 𝓛 5) $ nothing ! $
       by ! (leaves 𝓛 f.ended stayed (f.clauses 𝓛 at_mem run) (bound filter judge rows kept answer) v x (tt, (tt, (tt, (tt, (tt, tt))))) (tt, (tt, (tt, (tt, (tt, tt))))))
 
@@ -149,6 +167,7 @@ module _ {M : Type 1} {𝓤 : Ura M} (𝓛 : Logic 𝓤) (at_mem : Memory → SP
       fpack3 ! Handle (List ℕ) Answer (λ judge' kept' answer'. fsep (left_judge l (block_ptr b1 o1) judge') (fsep (left_buffer l (record { at = (block_ptr b3 o3); length = kept-length }) kept') (fsep (left_answer l (block_ptr b4 o4) answer') (holds (of_buffer (block_ptr b3 o3) kept-length l.buffer kept' ((judge' ≡ l.judge) × ((answer' ≡ l.answer) × (x ≡ 1))) (λ old new. of_bytes (block_ptr b2 o2) rows-length l.bytes ((judge' ≡ l.judge) × ((new ≡ old) × ((answer' ≡ l.answer) × (x ≡ 1)))) (λ bytes. FiltersLines l.handle l.judge judge' bytes old new answer' x))))))) ws.1.0 ws.1.1.1.0 ws.1.1.1.1.0 $ ends (block_ptr b0 o0) (block_ptr b1 o1) (record { at = (block_ptr b2 o2); length = rows-length }) (record { at = (block_ptr b3 o3); length = kept-length }) (block_ptr b4 o4) v x))))))))
 
 pub odfilter_filter_lines_spec : {M : Type 1} → statement M
+unfolding borrowed_by_filter_lines
 odfilter_filter_lines_spec 𝓤 𝓛 𝓜 𝓡 wired =
     let c = f.clauses 𝓛 𝓜.mem 𝓡.returns in let 𝓣 = tables 𝓤 𝓛.H 𝓜 𝓡 𝓡.env in
     proved 𝓛 f.ended stayed c 𝓜 𝓡 (Goes-dropped 𝓛 0 (plain (λ _. RawPtr)) yes (λ κs x w. refl), (Goes-dropped 𝓛 0 (plain (λ _. RawPtr)) yes (λ κs x w. refl), (Goes-dropped 𝓛 0 (plain (λ _. BytesRow)) yes (λ κs x w. refl), (Goes-dropped 𝓛 0 (plain (λ _. BufferRow)) yes (λ κs x w. refl), (Goes-dropped 𝓛 0 (plain (λ _. RawPtr)) yes (λ κs x w. refl), tt)))))

@@ -1,6 +1,6 @@
 -- `new_sql` meets its contract: the addresses are tested one by one, and the call borrows what they point to.
 use Rattle.odfilter_c.proofs.Steps.{◌≡◌, ℕ, ◌<◌, ◌^◌, [], ◌∷◌, refl, lit<, w32, w64, proved, leaves, none, there_is, Ura, SProp, id⊢, ftrue, fsep, flft, Val, vint, vptr, Memory, Routine, WpFn, Calls, Loops, Fun, fact, tables, FmC, Logic, ‵, raw, ◌⊛◌, prop, Sq, ◌$◌, ◌∵◌, !, qed, move, keep, drop, use0, use1, use2, split, join, fsplit, fjoin, pick, await, by, enter, of_opd, addr, stop, fld, no_more, and_then, branches, agg, sub, whole, alloc_all, pass_all, free_all, get, get_in, through, sets, u32, usize, yes, Typed, Is, shows, uint_Makes, uint_Lawful, uint_vals, uint_Tells, Ptr, RawPtr, block_ptr, null_ptr, ptr_val, Testable, rawptr_vals, rawptr_Tells, slice_val, owns, types_at, plain, nothing, owned, heard, peeks, Contract, Triple, calls_at_last, triple_of, Stays, walk_of, stay_dropped, Goes-dropped, framed, Global, GlobalRow, global_lowers, global_val, global_laws, Bytes, BytesRow, bytes_lowers, bytes_val, bytes_laws, Owned, Answer, HasNull, in_rest, trues, good, all_true, back, hold, unchanged, fpack2, compares, stands, tested, closes, hands, inside, ends1}
-use Rattle.odfilter_c.specs.Loans.{Loan, left_made, left_answer, of_bytes, holds}
+use Rattle.odfilter_c.specs.Loans.{Loan, left_made, left_answer, of_bytes, holds, borrowed_handle, borrowed_bytes, borrowed_made, borrowed_answer, unless_null}
 use Rattle.odfilter_c.specs.SqlExports.{borrowed_by_new_sql, left_by_new_sql}
 use Rattle.report_calls.specs.SqlHandles.{MakesSql}
 use Rattle.report_calls.specs.contracts.calls.new_sql as g
@@ -11,6 +11,7 @@ use Rattle.odfilter_c.proofs.null_calls.new_sql_at_null.Symbol.{name as #call-1}
 use Rattle.odfilter_c.proofs.null_calls.new_sql_at_null.Met.{met as met-1}
 use Rattle.odfilter_c.specs.contracts.sql_exports.odfilter_new_sql as f
 use Rattle.odfilter_c.proofs.sql_exports.odfilter_new_sql.Statement.{statement}
+use base.Fml.{Fml, feq, fex}
 use Rattle.odfilter_c.proofs.sql_exports.odfilter_new_sql.Code as code
 
 abbrev stayed : Stays f.ended.signature.params f.ended.kept
@@ -20,6 +21,18 @@ module _ {M : Type 1} {𝓤 : Ura M} (𝓛 : Logic 𝓤) (at_mem : Memory → SP
     (known : Triple 𝓤 (C #call) (triple_of 𝓛 g.signature (g.spec 𝓛 at_mem run)))
     (known-1 : Triple 𝓤 (C #call-1) (triple_of 𝓛 g-1.signature (g-1.spec 𝓛 at_mem run))) (l : Loan) where
   open 𝓛 use {H}
+
+  -- what the call borrows, and what it leaves
+  abbrev Borrowed : Ptr → Bytes → Ptr → Ptr → Fml
+  Borrowed filter how conditions answer = fsep (borrowed_handle l filter) (fsep (borrowed_bytes l how) (fsep (borrowed_made l conditions) (borrowed_answer l answer)))
+
+  abbrev Left : Ptr → ℕ → Bytes → Ptr → Ptr → ℕ → Fml
+  Left filter form how conditions answer result = unless_null (filter ∷ conditions ∷ answer ∷ [])
+      (fsep (feq ℕ result 1) (Borrowed filter how conditions answer))
+      (fex Owned (λ conditions'. fex Answer (λ answer'.
+      fsep (left_made l conditions conditions') (fsep (left_answer l answer answer')
+      (holds (of_bytes how.at how.length l.bytes ((conditions' ≡ l.made) × ((answer' ≡ l.answer) × (result ≡ 1)))
+      (λ bytes. MakesSql l.handle form bytes conditions' answer' result)))))))
 
   abbrev G : Contract 𝓤
   G = triple_of 𝓛 g.signature (g.spec 𝓛 at_mem run)
@@ -34,9 +47,10 @@ module _ {M : Type 1} {𝓤 : Ura M} (𝓛 : Logic 𝓤) (at_mem : Memory → SP
   bound alloc filter form how conditions answer = ((tt, tt, tt, (alloc, (filter, (form, (how, (conditions, (answer, tt)))))), (global_val alloc ∷ [], (ptr_val filter ∷ [], (vint w32 form ∷ [], (bytes_val how ∷ [], (ptr_val conditions ∷ [], (ptr_val answer ∷ [], tt))))))), l)
 
   abbrev Walk : Global → Ptr → ℕ → Bytes → Ptr → Ptr → Type 1
-  Walk alloc filter form how conditions answer = Sq 𝓛 (‵ (flft l.lifetime l.share) ∷ ‵ (borrowed_by_new_sql l filter how conditions answer) ∷ ‵ (GlobalRow.own_val alloc (global_val alloc ∷ [])) ∷ []) (prop (WpFn 𝓤 H C Λ code.function (global_val alloc ∷ ptr_val filter ∷ vint w32 form ∷ bytes_val how ∷ ptr_val conditions ∷ ptr_val answer ∷ []) (W.post (bound alloc filter form how conditions answer))))
+  Walk alloc filter form how conditions answer = Sq 𝓛 (‵ (flft l.lifetime l.share) ∷ ‵ (Borrowed filter how conditions answer) ∷ ‵ (GlobalRow.own_val alloc (global_val alloc ∷ [])) ∷ []) (prop (WpFn 𝓤 H C Λ code.function (global_val alloc ∷ ptr_val filter ∷ vint w32 form ∷ bytes_val how ∷ ptr_val conditions ∷ ptr_val answer ∷ []) (W.post (bound alloc filter form how conditions answer))))
 
-  ends : (alloc : Global) (filter : Ptr) (form : ℕ) (how : Bytes) (conditions : Ptr) (answer : Ptr) (v : Val) (x : ℕ) → Sq 𝓛 (‵ (left_by_new_sql l filter form how conditions answer x) ∷ ‵ (u32.own_val x (v ∷ [])) ∷ ‵ (flft l.lifetime l.share) ∷ []) (prop (W.post (bound alloc filter form how conditions answer) v))
+  ends : (alloc : Global) (filter : Ptr) (form : ℕ) (how : Bytes) (conditions : Ptr) (answer : Ptr) (v : Val) (x : ℕ) → Sq 𝓛 (‵ (Left filter form how conditions answer x) ∷ ‵ (u32.own_val x (v ∷ [])) ∷ ‵ (flft l.lifetime l.share) ∷ []) (prop (W.post (bound alloc filter form how conditions answer) v))
+  unfolding borrowed_by_new_sql left_by_new_sql
   ends alloc filter form how conditions answer v x = move ! (2 ∷ 0 ∷ []) $ join ! $ move ! (1 ∷ []) $ use0 𝓛 (‵ (trues 6)) (all_true 𝓛 6) $ nothing ! $
       by ! (leaves 𝓛 f.ended stayed (f.clauses 𝓛 at_mem run) (bound alloc filter form how conditions answer) v x (tt, (tt, (tt, (tt, (tt, (tt, tt)))))) (tt, (tt, (tt, (tt, (tt, (tt, tt)))))))
 
@@ -92,6 +106,7 @@ module _ {M : Type 1} {𝓤 : Ura M} (𝓛 : Logic 𝓤) (at_mem : Memory → SP
       fpack2 ! Owned Answer (λ conditions' answer'. fsep (left_made l (block_ptr b2 o2) conditions') (fsep (left_answer l (block_ptr b3 o3) answer') (holds (of_bytes (block_ptr b1 o1) how-length l.bytes ((conditions' ≡ l.made) × ((answer' ≡ l.answer) × (x ≡ 1))) (λ bytes. MakesSql l.handle form bytes conditions' answer' x))))) ws.1.1.1.1.0 ws.1.1.1.1.1.0 $ ends alloc (block_ptr b0 o0) form (record { at = (block_ptr b1 o1); length = how-length }) (block_ptr b2 o2) (block_ptr b3 o3) v x)))))))
 
 pub odfilter_new_sql_spec : {M : Type 1} → statement M
+unfolding borrowed_by_new_sql
 odfilter_new_sql_spec 𝓤 𝓛 𝓜 𝓡 wired =
     let c = f.clauses 𝓛 𝓜.mem 𝓡.returns in let 𝓣 = tables 𝓤 𝓛.H 𝓜 𝓡 𝓡.env in
     proved 𝓛 f.ended stayed c 𝓜 𝓡 (Goes-dropped 𝓛 0 (plain (λ _. GlobalRow)) yes (λ κs x w. refl), (Goes-dropped 𝓛 0 (plain (λ _. RawPtr)) yes (λ κs x w. refl), (Goes-dropped 𝓛 0 (plain (λ _. u32)) yes (λ κs x w. refl), (Goes-dropped 𝓛 0 (plain (λ _. BytesRow)) yes (λ κs x w. refl), (Goes-dropped 𝓛 0 (plain (λ _. RawPtr)) yes (λ κs x w. refl), (Goes-dropped 𝓛 0 (plain (λ _. RawPtr)) yes (λ κs x w. refl), tt))))))
