@@ -6,7 +6,6 @@ mod FilledValues
 mod Indexes
 mod KeptMembers
 mod KeptSlots
-mod KnownTextsStand
 mod LeavesKept
 mod NextMembers
 mod RootEnds

@@ -1,14 +1,14 @@
 -- A reader of rows stays one when the marks and sieves of its types are others.
-use Rattle.std.proofs.Common.{◌≡◌, ℕ, zero, suc, List, [], ◌∷◌, inr, length, map, Bool, true, false, Option, None, Some, Vec, Global, IfSome, slice_get, slice_set, refl, sym, ap, ap₂, ◌∙◌, subst, arith}
+use Rattle.std.proofs.Common.{◌≡◌, ℕ, zero, suc, List, [], ◌∷◌, inr, map, Bool, true, false, Option, None, Some, Vec, Global, IfSome, slice_get, slice_set, refl, sym, ap, ap₂, ◌∙◌, subst, arith}
 use Rattle.std.specs.Prelude.{All}
 use Rattle.csdl_schema.specs.SchemaModel.{properties_at}
 use Rattle.edm_values.specs.declared.sieve.Sieve.{Sieve}
 use Rattle.edm_values.specs.declared.value.Value.{Value}
 use Rattle.edm_row_plans.specs.Expanded.{slots_at}
 use Rattle.edm_entities.specs.ValuesRead.{IsRowValue}
-use Rattle.edm_rows.specs.declared.known_texts.Cache.{Cache}
-use Rattle.edm_rows.specs.declared.known_texts.KnownTexts.{KnownTexts}
-use Rattle.edm_rows.specs.private.KnownTexts.{AreKnown}
+use Rattle.edm_rows.specs.declared.row_cache.Cache.{Cache}
+use Rattle.edm_rows.specs.declared.row_cache.LookedUp.{LookedUp}
+use Rattle.edm_rows.specs.private.LookedUp.{AreKnown}
 use Rattle.edm_rows.specs.HeldSchema.{schema_in}
 use Rattle.edm_rows.specs.RowsOfType.{IsSameButKept, TypeMarks, sifted}
 use Rattle.edm_rows.specs.declared.row_types.RowSlot.{RowSlot}
@@ -106,7 +106,7 @@ module _ (rows : Inside) (is : IsRowsOfType rows) (types : Vec RowType Global) (
 
 -- ---- another row
 
-module _ (rows : Inside) (is : IsRowsOfType rows) (cache : Cache) (known : KnownTexts) (row : Value) (are_known : AreKnown (schema_in rows.schema) known) where
+module _ (rows : Inside) (is : IsRowsOfType rows) (cache : Cache) (known : LookedUp) (row : Value) (are_known : AreKnown (schema_in rows.schema) known) where
   -- where it goes on to be ready the row is one of the type
   pub reader_stays : (is_ready : Bool) → AreTypesOf (schema_in rows.schema) rows.plan rows.types.items → (is_ready ≡ true → IsRowValue (slots_at (schema_in rows.schema) rows.plan.expansion (Some 0)) (properties_at (schema_in rows.schema) rows.plan.type_id) row)
       → IsRowsOfType (record rows { cache = cache; known = known; row = row; is_ready = is_ready })

@@ -12,7 +12,7 @@ use Rattle.json_room.specs.private.Lexemes.{IsTextAt}
 use Rattle.json_room.specs.Lexemes.{StandsTo, tokens_at}
 use Rattle.json_room.proofs.Standing.{string_stands}
 use Rattle.csdl_schema.specs.ExprType.{SingleType, single, enumeration, primitive}
-use Rattle.csdl_schema.specs.SchemaModel.{Slots}
+use Rattle.csdl_schema.specs.SchemaModel.{SchemaModel, Slots, slots_of, type_name_at}
 use Rattle.edm_values.specs.Civil.{Date as CivilDate}
 use Rattle.edm_values.specs.DateLiteral.{DateValue}
 use Rattle.edm_values.specs.GuidLiteral.{GuidValue}
@@ -24,6 +24,7 @@ use Rattle.edm_values.specs.Val as val
 use Rattle.edm_values.specs.declared.primitive.PrimitiveType.{PrimitiveType}
 use Rattle.edm_values.specs.declared.primitive.PrimitiveType.TheVariants as prim
 use Rattle.edm_row_plans.specs.declared.type_plan.TypePlan.{TypePlan}
+use Rattle.enumeration_texts.specs.EnumerationTexts.{IsMemberTextAt}
 use Rattle.edm_entities.specs.FitsPrimitive.{FitsPrimitive, IsMemberText, IsTextValue}
 use Rattle.edm_rows.specs.private.Passed.{FitsSome, FitsSomeHowever}
 use Rattle.json_room.proofs.Tokens.{boolean_token, null_token, number_token, string_token}
@@ -34,7 +35,7 @@ use Rattle.room_literals.specs.SureTexts.{IsLiteralAt}
 use Rattle.json_room.specs.ValueStands.{ValueStands}
 use Rattle.edm_rows.specs.private.Held.{IsHeldTo, IsIntegerText, IsSingle, Kinds, type_of}
 use Rattle.json_room.proofs.Places.{begins_at, reads_to_as, token_to}
-use Rattle.edm_rows.specs.private.RowSlots.{HasPrimitive, IsSlotOf, IsTaskOf}
+use Rattle.edm_rows.specs.private.RowSlots.{HasPrimitive, IsSlotOf, IsTaskOf, name_at}
 
 -- ---- tokens of a type
 
@@ -115,6 +116,13 @@ pub member_held : (slots : Slots) (name : List ℕ) (depth : ℕ) (line : List �
 member_held slots name depth line from to s v further stands is =
     token_to depth line from to (Token.string s) (FitsSomeHowever slots (single (enumeration name))) (string_stands line from to s further stands.within stands.lexed)
     (record { json = string s; is_read = λ d rest. string_token s d rest; no_null = refl; holds = λ nullable. (v, (s, refl, is)) })
+
+-- a text that was found to be one of its enumeration
+pub known_held : (schema : SchemaModel) (id : Option ℕ) (depth : ℕ) (line : List ℕ) (from to : ℕ) → IsMemberTextAt schema id line from to
+    → ValueStands depth line from to (FitsSomeHowever (slots_of schema) (single (enumeration (name_at schema id))))
+known_held schema id depth line from to is =
+    subst (λ (o : Option ℕ). ValueStands depth line from to (FitsSomeHowever (slots_of schema) (single (enumeration (name_at schema o))))) (sym is.is_of)
+    (member_held (slots_of schema) (type_name_at schema is.enumeration) depth line from to is.text (val.member is.is_one.0) is.further is.stands (is.is_one.0, is.is_one.1, is.is_one.2, refl))
 
 -- null, where it may be
 pub null_held : (slots : Slots) (nullable : Bool) (type : SingleType) (depth : ℕ) (line : List ℕ) (from to : ℕ) → nullable ≡ true → StandsTo line from Token.null to

@@ -6,7 +6,7 @@ pub mod HeldRows
 pub mod KeptLeaves
 pub mod KeptRows
 pub mod KeptSoFar
-pub mod KnownTexts
+pub mod LookedUp
 pub mod LayoutRows
 pub mod Members
 pub mod Passed

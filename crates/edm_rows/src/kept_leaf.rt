@@ -1,18 +1,19 @@
 //! Values without parts that are put into a row's slots.
-ghost use Rattle.std.specs.Prelude.{◌≡◌, ◌≤◌, length, IfSome, IsTrue};
+ghost use Rattle.std.specs.Prelude.{◌≡◌, ◌≤◌, ℕ, length, IfSome, IsTrue};
 ghost use Rattle.std.specs.Str.{IsUtf8};
 ghost use Rattle.edm_values.specs.SieveMeaning.{Rejects};
 ghost use Rattle.edm_values.specs.Val.{text as val_text};
 ghost use Rattle.csdl_schema.specs.ExprType.{primitive};
-ghost use Rattle.csdl_schema.specs.SchemaModel.{slots_of};
-ghost use Rattle.edm_rows.specs.private.KeptLeaves.{PutsLeaf, PutsMember, TakesLeaf};
+ghost use Rattle.csdl_schema.specs.SchemaModel.{Slots, slots_of};
+ghost use Rattle.edm_rows.specs.private.KeptLeaves.{IsLeafRejected, PutsLeaf, PutsMember, TakesLeaf};
 ghost use Rattle.edm_rows.specs.private.RowSlots.{HasPrimitive, name_at};
+ghost use Rattle.json_room.specs.ValueStands.{ValueStands};
 
-use super::known_texts::Cache;
 use super::literals::{literal_at, member_at};
 use super::passed_value::{ReadContext, typed_number_at};
+use super::row_cache::Cache;
 use super::row_types::{RowSlot, Task};
-use edm_values::{Prim, Value};
+use edm_values::{Prim, Sieve, Value};
 use json_room::{RoomyLine, any_text_at, text_at, truth_end, whole_at};
 use spare_values::{is_filled_again, overwrite_text, put_number, put_truth, write_text};
 
@@ -110,6 +111,31 @@ fn is_text_rejected(slot: &RowSlot, text: &str) -> bool
     ensures utf8 { IsUtf8 text.now }
 {
     slot.sieve.rejects_text(text)
+}
+
+/// Where a text ends, however it is written, that the slot's sieve rejects. It is not decoded where all texts pass.
+pub(crate) fn rejected_text_end(
+    cache: &mut Cache,
+    line: &RoomyLine<'_>,
+    slot: &RowSlot,
+    place: usize,
+) -> Option<usize>
+    requires { place ≤ length line.now }
+    ensures rejected { IfSome result (λ end. (slots : Slots) (depth : ℕ)
+        → ValueStands depth line.now place end (IsLeafRejected slots (primitive Prim.String) slot.now.sieve)) }
+    ensures depth { cache.new.depth ≡ cache.old.depth }
+{
+    if let Sieve::All = slot.sieve {
+        return None;
+    }
+    let Some((text, end)) = any_text_at(line, place, &mut cache.decoded) else {
+        return None;
+    };
+    if is_text_rejected(slot, text) {
+        Some(end)
+    } else {
+        None
+    }
 }
 
 /// Takes any number of the slot's type.

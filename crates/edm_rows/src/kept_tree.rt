@@ -16,9 +16,9 @@ use super::kept_leaf::{
     take_truth,
 };
 use super::kept_value::Progress;
-use super::known_texts::Cache;
 use super::members::{After, Found, after_member, next_member};
 use super::passed_value::{ReadContext, value_end};
+use super::row_cache::Cache;
 use super::row_types::{RowSlot, RowType, Task};
 use edm_values::{Value, take_few};
 use json_room::{RoomyLine, any_value_end, null_end, past_blanks};

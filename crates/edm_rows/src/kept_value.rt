@@ -8,11 +8,11 @@ ghost use Rattle.edm_rows.specs.private.SeenSlots.{HasMark, HaveRoom};
 ghost use Rattle.edm_rows.specs.private.Contexts.{FindsMember, IsContext, PassesValue};
 
 use super::absent_slots::ends_object;
-use super::kept_leaf::{Taken, take_digits, take_text, take_truth};
+use super::kept_leaf::{Taken, rejected_text_end, take_digits, take_text, take_truth};
 use super::kept_tree::fill_value;
-use super::known_texts::Cache;
 use super::members::{After, Found, after_member, next_member};
 use super::passed_value::{ReadContext, value_end};
+use super::row_cache::Cache;
 use super::row_types::{RowSlot, RowType, Task};
 use edm_values::Value;
 use json_room::{RoomyLine, past_blanks};
@@ -95,7 +95,7 @@ fn take_other<M: SeenSlots>(
     sure
 }
 
-/// The same of null, of a value with parts, and of one that is written as few are.
+/// The same of null, of a value with parts, and of one that is written as few are. A text with escapes is rejected too.
 #[inline(never)]
 fn take_seldom<M: SeenSlots>(
     cache: &mut Cache,
@@ -113,6 +113,11 @@ fn take_seldom<M: SeenSlots>(
     ensures goes_on { result ≢ Taken.Broken → GoesOn context.now slot.now value.old value.new }
     ensures depth { cache.new.depth ≡ context.now.depth }
 {
+    if let Task::Text = slot.task {
+        if let Some(end) = rejected_text_end(cache, &context.line, slot, place) {
+            return Taken::Rejected(end);
+        }
+    }
     match fill_value::<M>(cache, context, slot, slot.task, place, value) {
         Some(end) => Taken::Put(end),
         None => Taken::Broken,

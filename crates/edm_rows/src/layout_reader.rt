@@ -8,8 +8,8 @@ ghost use Rattle.edm_rows.specs.private.HeldRows.{HasFirstType};
 ghost use Rattle.edm_rows.specs.private.LayoutRows.{FillsRow, row_by};
 
 use super::kept_tree::fill_members;
-use super::known_texts::{Cache, KnownTexts};
 use super::passed_value::ReadContext;
+use super::row_cache::{Cache, LookedUp};
 use super::row_layout::RowLayout;
 use super::row_types::DEPTH;
 use super::type_rows::ends_line;
@@ -101,7 +101,7 @@ fn fill_line(
     let line = RoomyLine::new(text, bytes);
     // A text is UTF-8.
     let _text = line.text();
-    let known = KnownTexts::new(cache.alloc);
+    let known = LookedUp::new(cache.alloc);
     let context = ReadContext {
         schema: layout.schema.schema(),
         plan: &layout.plan,

@@ -1,15 +1,17 @@
 //! The members of an object, and the slots that their names have.
-ghost use Rattle.std.specs.Prelude.{◌≡◌, ◌<◌, ◌≤◌, length, IfSome};
+ghost use Rattle.std.specs.Prelude.{◌≡◌, ◌<◌, ◌≤◌, ℕ, length, IfSome};
 ghost use Rattle.csdl_schema.specs.SchemaModel.{properties_at};
-ghost use Rattle.edm_rows.specs.private.Members.{EndsMember, FindsName, IsSlotOfName, NextMember};
+ghost use Rattle.json_room.specs.LexemesAt.{PassesSpaces};
+ghost use Rattle.edm_rows.specs.private.Members.{EndsMember, FindsName, NextMember};
 ghost use Rattle.edm_rows.specs.private.RowSlots.{IsTypeOf};
 ghost use Rattle.edm_rows.specs.private.Contexts.{FindsMember, IsContext, PassesMembers};
 ghost use Rattle.edm_rows.specs.private.SeenSlots.{HaveRoom};
 
-use super::known_texts::Cache;
 use super::passed_value::{ReadContext, value_end};
+use super::row_cache::{Cache, Noted};
 use super::row_types::{FEW_SLOTS, RowSlot, RowType};
 use csdl_schema::Schema;
+use expected_members::NotedName;
 use json_room::{DecodeBuffer, RoomyLine, any_text_at, any_value_end, past_blanks};
 use seen_slots::SeenSlots;
 
@@ -54,25 +56,6 @@ fn after_blanks(line: &RoomyLine<'_>, end: usize) -> Option<After>
     }
 }
 
-/// The slot that came next the last time.
-#[inline(always)]
-fn likely_slot(cache: &Cache, order: usize) -> usize
-    requires { order < 1024 }
-{
-    cache.next[order] as usize
-}
-
-/// Notes that the slot that was found comes next there.
-fn note_next(cache: &mut Cache, order: usize)
-    requires { order < 1024 }
-    ensures depth { cache.new.depth ≡ cache.old.depth }
-    ensures slot { cache.new.slot ≡ cache.old.slot }
-{
-    if let Ok(slot) = u16::try_from(cache.slot) {
-        cache.next[order] = slot;
-    }
-}
-
 /// The next member. Mostly it is the one that came next the last time.
 #[inline(always)]
 pub(crate) fn next_member<'w>(
@@ -90,7 +73,7 @@ pub(crate) fn next_member<'w>(
     ensures found { IfSome result (FindsMember context.now plan.now cache.old.depth place) }
     ensures depth { cache.new.depth ≡ cache.old.depth }
 {
-    let likely = likely_slot(cache, order);
+    let likely = cache.next.compact_slot(order);
     if likely < plan.slots.len() {
         let slot = &plan.slots[likely];
         if let Some(end) = slot.key.end(&context.line, place) {
@@ -99,6 +82,8 @@ pub(crate) fn next_member<'w>(
                 place: end,
             });
         }
+    } else if let Some(found) = spaced_member(cache, context, plan, order, place) {
+        return Some(found);
     }
     let Some(end) = other_member(cache, context, plan, order, place) else {
         return None;
@@ -115,7 +100,51 @@ pub(crate) fn next_member<'w>(
     })
 }
 
-/// The same of a member that was not expected, whose slot the cache reports; one that has no slot is passed.
+/// The next member where it is the one that last came next with a space before its value, and has one now. A space may
+/// stand before its name too.
+#[inline(always)]
+fn spaced_member<'w>(
+    cache: &Cache,
+    context: &ReadContext<'_>,
+    plan: &'w RowType,
+    order: usize,
+    place: usize,
+) -> Option<Found<'w>>
+    requires plan { IsTypeOf context.now.schema.now context.now.plan.now.expansion context.now.plan.now.plans.items
+        plan.now }
+    requires order { order < 1024 }
+    requires within { place ≤ length context.now.line }
+    ensures { (depth : ℕ) → IfSome result (FindsMember context.now plan.now depth place) }
+{
+    let likely = cache.next.spaced_slot(order);
+    if likely >= plan.slots.len() {
+        return None;
+    }
+    let line = &context.line;
+    let name = past_space(line, place);
+    let slot = &plan.slots[likely];
+    match slot.key.spaced_end(line, name) {
+        Some(end) => Some(Found {
+            slot: Some(slot),
+            place: end,
+        }),
+        None => None,
+    }
+}
+
+/// The offset after a space, if one stands there.
+#[inline(always)]
+fn past_space(line: &RoomyLine<'_>, place: usize) -> usize
+    requires { place ≤ length line.now }
+    ensures { PassesSpaces line.now place result }
+{
+    if line.byte(place) == b' ' {
+        return place + 1;
+    }
+    place
+}
+
+/// The next member where it was not expected: the cache reports its slot, and one without a slot is passed.
 #[inline(never)]
 fn other_member(
     cache: &mut Cache,
@@ -135,18 +164,12 @@ fn other_member(
 {
     let line = &context.line;
     let place = past_blanks(line, from);
-    let likely = likely_slot(cache, order);
-    if likely < plan.slots.len() {
-        if let Some(value) = plan.slots[likely].key.end_before_blanks(line, place) {
-            cache.slot = likely;
-            return Some(value);
-        }
-    }
-    let Some(value) = named_member(cache, context, plan, place) else {
+    let Some(value) = next_name(cache, context, plan, order, place) else {
         return None;
     };
     if cache.slot < plan.slots.len() {
-        note_next(cache, order);
+        let is_spaced = line.byte(value) == b' ';
+        cache.next.put(order, cache.slot, is_spaced);
         return Some(value);
     }
     any_value_end(
@@ -155,6 +178,40 @@ fn other_member(
         cache.depth,
         &mut cache.decoded,
     )
+}
+
+/// The name that stands there and its colon, which white space may come before. The cache reports its slot: mostly none,
+/// or that of the member that came next the last time.
+#[inline(always)]
+fn next_name(
+    cache: &mut Cache,
+    context: &ReadContext<'_>,
+    plan: &RowType,
+    order: usize,
+    place: usize,
+) -> Option<usize>
+    requires context { IsContext context.now }
+    requires plan { IsTypeOf context.now.schema.now context.now.plan.now.expansion context.now.plan.now.plans.items
+        plan.now }
+    requires order { order < 1024 }
+    requires within { place ≤ length context.now.line }
+    ensures name { IfSome result (FindsName context.now.line (properties_at context.now.schema.now plan.now.type_id)
+        cache.new.slot place) }
+    ensures depth { cache.new.depth ≡ cache.old.depth }
+{
+    let line = &context.line;
+    if let Some(end) = context.known.names.name_end(plan.type_id, line, place) {
+        cache.slot = plan.slots.len();
+        return Some(end);
+    }
+    let likely = cache.next.last_slot(order);
+    if likely < plan.slots.len() {
+        if let Some(end) = plan.slots[likely].key.end_before_blanks(line, place) {
+            cache.slot = likely;
+            return Some(end);
+        }
+    }
+    named_member(cache, context, plan, place)
 }
 
 /// The member whose name stands there; without a slot where its name is no slot's.
@@ -184,7 +241,22 @@ fn named_member(
         return None;
     };
     cache.slot = slot;
+    note_name(cache, plan, line, place);
     Some(end)
+}
+
+/// Notes the name that stands there, where the member that was found has no slot.
+fn note_name(cache: &mut Cache, plan: &RowType, line: &RoomyLine<'_>, place: usize)
+    requires { place ≤ length line.now }
+    ensures depth { cache.new.depth ≡ cache.old.depth }
+    ensures slot { cache.new.slot ≡ cache.old.slot }
+{
+    if cache.slot < plan.slots.len() {
+        return;
+    }
+    if let Some(name) = NotedName::of(plan.type_id, line, place) {
+        cache.noted = Some(Noted::Name(name));
+    }
 }
 
 /// The slot of the name that stands there, and the offset after its colon.
@@ -207,17 +279,9 @@ fn slot_at(
     if line.byte(colon) != b':' {
         return None;
     }
-    Some((slot_of(schema, plan, name), colon + 1))
-}
-
-/// The slot of a name; where no slot has it, how many there are.
-fn slot_of(schema: &Schema, plan: &RowType, name: &str) -> usize
-    requires { length plan.now.slots.items ≡ length (properties_at schema.now plan.now.type_id) }
-    ensures { IsSlotOfName (properties_at schema.now plan.now.type_id) name.now result }
-{
     match schema.slot(plan.type_id, name) {
-        Some(slot) => slot,
-        None => plan.slots.len(),
+        Some(slot) => Some((slot, colon + 1)),
+        None => Some((plan.slots.len(), colon + 1)),
     }
 }
 

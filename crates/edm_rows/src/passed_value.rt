@@ -11,9 +11,9 @@ ghost use Rattle.edm_rows.specs.private.RowSlots.{IsSlotOf, IsTaskOf, name_at};
 ghost use Rattle.edm_rows.specs.private.Contexts.{IsContext, PassesItems, PassesValue};
 ghost use Rattle.edm_rows.specs.private.SeenSlots.{HaveRoom};
 
-use super::known_texts::{Cache, KnownTexts, Noted};
 use super::literals::{literal_at, member_at};
 use super::members::pass_members;
+use super::row_cache::{Cache, LookedUp, Noted};
 use super::row_types::{RowSlot, RowType, Task};
 use csdl_schema::Schema;
 use edm_row_plans::RowPlan;
@@ -30,7 +30,7 @@ pub(crate) struct ReadContext<'w> {
     pub(crate) schema: &'w Schema,
     pub(crate) plan: &'w RowPlan,
     pub(crate) types: &'w [RowType],
-    pub(crate) known: &'w KnownTexts,
+    pub(crate) known: &'w LookedUp,
     pub(crate) line: RoomyLine<'w>,
     /// How deep the members of a row may nest.
     pub(crate) depth: usize,
@@ -89,7 +89,7 @@ fn sure_end<M: SeenSlots>(
         Task::Date => day_end(line, place),
         Task::Moment => moment_end(line, place),
         Task::Guid => guid_end(line, place),
-        Task::Member => context.known.text_end(slot.member_of, line, place),
+        Task::Member => context.known.texts.text_end(slot.member_of, line, place),
         Task::Record => record_end::<M>(cache, context, slot, place),
         Task::Items => array_end::<M>(cache, context, slot, place),
         Task::Any => any_number_end(line, place),
@@ -319,7 +319,7 @@ fn member_text_end(
     };
     match member_at(&mut cache.decoded, context.schema, &context.line, id, place) {
         Some((_, end)) => {
-            cache.noted = Noted::of(id, &context.line, place);
+            cache.noted = Noted::of_text(id, &context.line, place);
             Some(end)
         }
         None => None,

@@ -30,7 +30,7 @@ const SLOTS: usize = 1024;
 pub(crate) const FEW_SLOTS: usize = 64;
 
 /// How many entries there are to store the order of members.
-pub(crate) const PLACES: usize = 1024;
+const PLACES: usize = 1024;
 
 /// What a value, or an item, is held to.
 #[derive(Clone, Copy, Debug, PartialEq, Eq)]

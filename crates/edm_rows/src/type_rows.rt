@@ -8,7 +8,7 @@ ghost use Rattle.json_room.specs.LexemesAt.{PassesSpaces};
 ghost use Rattle.edm_rows.specs.private.HeldRows.{HasFirstType, IsTakenWhole, IsTakenWithin};
 ghost use Rattle.edm_rows.specs.private.HeldRows.{ReadsRowAt, TakesMembers, TakesObject};
 ghost use Rattle.edm_rows.specs.RowItems.{ReadsItem};
-ghost use Rattle.edm_rows.specs.private.KnownTexts.{AreKnown};
+ghost use Rattle.edm_rows.specs.private.LookedUp.{AreKnown};
 ghost use Rattle.edm_rows.specs.private.KeptRows.{RowConforms, root_properties, root_slots};
 ghost use Rattle.edm_rows.specs.private.Contexts.{IsContext};
 ghost use Rattle.edm_rows.specs.HeldSchema.{schema_in};
@@ -18,9 +18,9 @@ use super::first_row::copy_without_items;
 use super::held_schema::HeldSchema;
 use super::kept_leaf::Taken;
 use super::kept_value::take_members;
-use super::known_texts::{Cache, KnownTexts};
 use super::layout_reader::fill_row;
 use super::passed_value::ReadContext;
+use super::row_cache::{Cache, LookedUp};
 use super::row_layout::types_of;
 use super::row_types::{DEPTH, RowType};
 use super::slot_marks::{keep_name_in, keep_types, sift_slot};
@@ -63,7 +63,7 @@ pub struct TypeRows<'s> {
     /// Those of the plan; none where rows are not read so.
     types: Vec<RowType>,
     cache: Cache,
-    known: KnownTexts,
+    known: LookedUp,
     /// Whether the row is one of the type.
     is_ready: bool,
     row: Value,
@@ -104,7 +104,7 @@ impl<'s> TypeRows<'s> {
             types,
             plan,
             cache: Cache::new(alloc),
-            known: KnownTexts::new(alloc),
+            known: LookedUp::new(alloc),
             is_ready: false,
             row: Value::Null,
         }
@@ -411,9 +411,9 @@ pub(crate) fn ends_line(line: &RoomyLine<'_>, end: usize) -> bool
     past_blanks(line, end) == count
 }
 
-/// A text that was noted is kept, if it is one of its enumeration.
+/// What was noted is kept, if it is a text of its enumeration or a name of no property.
 #[inline(always)]
-fn keep_noted(cache: &mut Cache, known: &mut KnownTexts, schema: &Schema)
+fn keep_noted(cache: &mut Cache, known: &mut LookedUp, schema: &Schema)
     requires { AreKnown schema.now known.old }
     ensures { AreKnown schema.now known.new }
 {

@@ -1,8 +1,7 @@
 -- Lemmas on words that stand at an offset, and on names.
-use Rattle.std.proofs.Common.{◌≡◌, ℕ, zero, suc, ◌+◌, ◌*◌, ◌%◌, ◌^◌, ◌<◌, ◌≤◌, Bool, true, false, cond, eqb, List, [], ◌∷◌, ◌++◌, length, drop, get_or, map, refl, sym, ap, ◌∙◌, subst, arith, append_assoc}
+use Rattle.std.proofs.Common.{◌≡◌, ℕ, zero, suc, ◌+◌, ◌*◌, ◌%◌, ◌^◌, ◌≤◌, Bool, true, false, cond, eqb, List, [], ◌∷◌, ◌++◌, length, drop, get_or, map, refl, sym, ap, ◌∙◌, arith, append_assoc}
 use Rattle.std.proofs.lemmas.Bool.{eqb-true}
-use Rattle.std.proofs.lemmas.List.{length-map}
-use Rattle.std.proofs.lemmas.Simd.{length-zip2, mask_l-lt, mask_l-mod, tops_compared}
+use Rattle.std.proofs.lemmas.Simd.{length-zip2, mask_l-mod, tops_compared}
 use lib.Lanes.{mask_l, top, zip2}
 use mir.Syntax.{w8}
 use Rattle.json.specs.Token.{key, string}
@@ -44,15 +43,6 @@ lanes_equal n xs ys long long' few is =
     let count : length (zip2 eqb xs ys) ≡ n = length-zip2 eqb xs ys (long ∙ sym long') ∙ long in
     all_equal n xs ys long long'
     (sym (mask_l-mod (zip2 eqb xs ys) 64 (omega (arith, count))) ∙ sym (ap (λ z. mask_l z % 2 ^ 64) (tops_compared w8 eqb xs ys)) ∙ is)
-
--- sixteen tests make a number of sixteen bits
-pub equal_few : (xs ys : List ℕ) → length xs ≡ 16 → length ys ≡ 16 → mask_l (map (top 7) (zip2 (λ a b. cond (eqb a b) 255 0) xs ys)) % 2 ^ 64 < 65536
-equal_few xs ys long long' =
-    let tests = zip2 (λ (a b : ℕ). cond (eqb a b) 255 0) xs ys in
-    let count : length (map (top 7) tests) ≡ 16 = length-map tests (top 7) ∙ length-zip2 (λ (a b : ℕ). cond (eqb a b) 255 0) xs ys (long ∙ sym long') ∙ long in
-    let low : mask_l (map (top 7) tests) < 65536 = subst (λ n. mask_l (map (top 7) tests) < 2 ^ n) count (mask_l-lt (map (top 7) tests)) in
-    let same : mask_l (map (top 7) tests) % 2 ^ 64 ≡ mask_l (map (top 7) tests) = mask_l-mod (map (top 7) tests) 64 (omega (arith, count)) in
-    omega (arith, low, same)
 
 -- ---- words by their first bytes and their last
 

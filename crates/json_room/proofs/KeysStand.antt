@@ -1,11 +1,9 @@
 -- Names that stand in a line, byte by byte.
-use Rattle.std.proofs.Common.{◌≡◌, ◌≢◌, ℕ, zero, suc, ◌+◌, ◌-◌, ◌%◌, ◌<◌, ◌≤◌, List, [], ◌∷◌, ◌++◌, length, take, drop, replicate, get_or, bit_and, bit_xor, false, refl, sym, ap, ◌∙◌, arith, Fits, w8, ⊎_elim, length-append}
+use Rattle.std.proofs.Common.{◌≡◌, ◌≢◌, ℕ, zero, suc, ◌+◌, ◌-◌, ◌%◌, ◌<◌, ◌≤◌, List, [], ◌∷◌, ◌++◌, length, take, drop, get_or, bit_and, false, refl, sym, ap, ◌∙◌, subst, arith, Fits, w8, ⊎_elim, length-append}
 use Rattle.std.proofs.lemmas.List.{get_or_append_left, get_or_at}
-use Rattle.std.proofs.lemmas.Nat.{and_mask, xor_of_8}
-use Rattle.std.proofs.lemmas.Nat.Bits.{bit_at-lt, bit_at-zero, bit_at_xor, same_from_bits}
-use Rattle.std.specs.Int.{bit_at}
-use Rattle.std.proofs.lemmas.Simd.{Each1-get_or, get_or-replicate, get_or-zip2}
-use lib.Lanes.{Each1, zip2}
+use Rattle.std.proofs.lemmas.Nat.{and_mask}
+use Rattle.std.proofs.lemmas.Simd.{Each1-get_or, get_or-chunk, get_or-zip2}
+use lib.Lanes.{Each1, chunk, zip2}
 use Rattle.std.proofs.lemmas.Bool.{cases_lt, true≢false}
 use Rattle.std.specs.List.{AllByRecursion}
 use Rattle.json.specs.Run.{is_plain}
@@ -13,6 +11,7 @@ use Rattle.json.specs.Written.{PlainBetween}
 use Rattle.json_room.specs.Keys.{name_with_colon, quoted_name, spaced_name}
 use Rattle.json_room.specs.private.Lexemes.{StandsAt}
 use Rattle.json_room.proofs.LexemeLemmas.{from_byte}
+use Rattle.json_room.specs.SpelledKey.{IsFront}
 use Rattle.json_room.specs.private.SpelledKey.{StandsByte}
 use Rattle.json_room.proofs.RoomLemmas.{byte_reported, other_default, other_run_within, within_byte}
 
@@ -109,31 +108,60 @@ bytes_stand line b front feed room place n w begins none there k few inside =
 and_byte : (x : ℕ) → x < 256 → bit_and x 255 ≡ x
 and_byte x low = let small : x % 256 ≡ x = omega (arith, low) in and_mask x 8 ∙ small
 
--- two bits of which one alone is not set are the same
-same_bit : (a b : ℕ) → a < 2 → b < 2 → (a + b) % 2 ≡ 0 → a ≡ b
-same_bit a b x y none = omega (arith, x, y, none)
-
-no_difference : (x y : ℕ) → bit_xor x y ≡ 0 → x ≡ y
-no_difference x y none =
-    same_from_bits x y (λ i. same_bit (bit_at x i) (bit_at y i) (bit_at-lt x i) (bit_at-lt y i) (sym (bit_at_xor x y i) ∙ ap (λ n. bit_at n i) none ∙ bit_at-zero i))
-
--- bytes that differ nowhere where a mask has all bits
-pub masked_lane : (lanes mask front : List ℕ) → length lanes ≡ 16 → Each1 (Fits w8) lanes → length front ≡ 16 → Each1 (Fits w8) front → length mask ≡ 16 → zip2 bit_and (zip2 bit_xor lanes front) mask ≡ replicate 16 0
-    → (k : ℕ) → k < 16 → get_or mask k 0 ≡ 255 → get_or lanes k 0 ≡ get_or front k 0
-masked_lane lanes mask front long fits front_long front_fits count same k few bits =
+-- a byte that is compared where a mask has all bits
+pub masked_lane : (lanes mask front : List ℕ) → length lanes ≡ 16 → Each1 (Fits w8) lanes → length mask ≡ 16 → zip2 bit_and lanes mask ≡ front → (k : ℕ) → k < 16 → get_or mask k 0 ≡ 255 → get_or lanes k 0 ≡ get_or front k 0
+masked_lane lanes mask front long fits count same k few bits =
     let x = get_or lanes k 0 in
-    let y = get_or front k 0 in
     let low : Fits w8 x = Each1-get_or (Fits w8) lanes k 0 (omega (arith, long, few)) fits in
-    let front_low : Fits w8 y = Each1-get_or (Fits w8) front k 0 (omega (arith, front_long, few)) front_fits in
-    let differ : get_or (zip2 bit_xor lanes front) k 0 ≡ bit_xor x y = get_or-zip2 bit_xor lanes front k 0 0 0 (omega (arith, long, few)) (omega (arith, front_long, few)) in
-    let within : k < length (zip2 bit_xor lanes front) = omega (arith, few, zipped_long lanes front 16 long front_long) in
-    let masked : get_or (zip2 bit_and (zip2 bit_xor lanes front) mask) k 0 ≡ bit_and (get_or (zip2 bit_xor lanes front) k 0) (get_or mask k 0) = get_or-zip2 bit_and (zip2 bit_xor lanes front) mask k 0 0 0 within (omega (arith, count, few)) in
-    no_difference x y
-    (sym (and_byte (bit_xor x y) (xor_of_8 x y low.fits front_low.fits)) ∙ sym (ap (bit_and (bit_xor x y)) bits) ∙ sym (ap (λ n. bit_and n (get_or mask k 0)) differ) ∙ sym masked
-    ∙ ap (λ (l : List ℕ). get_or l k 0) same ∙ get_or-replicate 16 k 0 0 few)
-  where
-    zipped_long : (xs ys : List ℕ) (n : ℕ) → length xs ≡ n → length ys ≡ n → length (zip2 bit_xor xs ys) ≡ n
-    zipped_long [] ys n a b = a
-    zipped_long (v ∷ xs) [] n a b = absurd (omega (arith, a, b))
-    zipped_long (v ∷ xs) (w ∷ ys) zero a b = absurd (omega (arith, a))
-    zipped_long (v ∷ xs) (w ∷ ys) (suc n) a b = ap suc (zipped_long xs ys n (omega (arith, a)) (omega (arith, b)))
+    sym (and_byte x low.fits) ∙ ap (bit_and x) (sym bits) ∙ sym (get_or-zip2 bit_and lanes mask k 0 0 0 (omega (arith, long, few)) (omega (arith, count, few))) ∙ ap (λ (l : List ℕ). get_or l k 0) same
+
+-- nor has one of them a bit where a mask has none
+and_zero : (x : ℕ) → bit_and x 0 ≡ 0
+and_zero x = let none : x % 1 ≡ 0 = omega arith in and_mask x 0 ∙ none
+
+pub unmasked_lane : (lanes mask front : List ℕ) → length lanes ≡ 16 → length mask ≡ 16 → zip2 bit_and lanes mask ≡ front → get_or mask 0 0 ≡ 0 → get_or front 0 0 ≡ 0
+unmasked_lane lanes mask front long count same none =
+    sym (ap (λ (l : List ℕ). get_or l 0 0) same) ∙ get_or-zip2 bit_and lanes mask 0 0 0 0 (omega (arith, long)) (omega (arith, count)) ∙ ap (bit_and (get_or lanes 0 0)) none ∙ and_zero (get_or lanes 0 0)
+
+-- ---- a word that is compared at once
+
+-- one of more than sixteen bytes never compares
+at_most : (w f m : List ℕ) → IsFront w f m → (get_or m 0 0 ≡ 0 → get_or f 0 0 ≡ 0) → length w ≤ 16
+at_most w f m is never =
+    ⊎_elim (λ many. let none = is.never many in
+    let e : 1 ≡ 0 = sym none.1 ∙ never none.0 in
+    absurd (omega (arith, e))) (λ few. few) (cases_lt 16 (length w))
+
+-- so all of it stands there
+pub whole_stands : (line b : List ℕ) (begin : take (length line) b ≡ line) (feed : get_or b (length line) 0 ≡ 10) (room : length line + 64 ≤ length b) (place : ℕ) (w f m : List ℕ) → place ≤ length line → NoFeed w → IsFront w f m
+    → ((k : ℕ) → k < 16 → get_or m k 0 ≡ 255 → get_or (chunk place 16 b) k 0 ≡ get_or f k 0) → (get_or m 0 0 ≡ 0 → get_or f 0 0 ≡ 0) → (k : ℕ) → StandsByte line place w k
+whole_stands line b begin feed room place w f m begins none is same never k inside =
+    let few = at_most w f m is never in
+    let there : (j : ℕ) → j < 16 → j < length w → get_or b (place + j) 0 ≡ get_or w j 0 =
+    λ j low within. sym (get_or-chunk place 16 b j 0 low) ∙ same j low (is.bits few j within) ∙ is.bytes few j within in
+    bytes_stand line b begin feed room place 16 w begins none there k (omega (arith, inside, few)) inside
+
+-- what is compared with a word is made of its bytes
+pub front_of_word : (w s f m : List ℕ) (n : ℕ) → s ≡ w → n ≡ length s → (length s ≤ 16 → (k : ℕ) → k < length s → get_or f k 0 ≡ get_or s k 0) → (16 < length s → get_or f 0 0 ≡ 1)
+    → (n ≤ 16 → (k : ℕ) → k < n → get_or m k 0 ≡ 255) → (16 < n → get_or m 0 0 ≡ 0) → IsFront w f m
+front_of_word w s f m n is long bytes other bits none =
+    subst (λ (x : List ℕ). IsFront x f m) is (record {
+      bytes = bytes;
+      bits = λ few k inside. bits (omega (arith, few, long)) k (omega (arith, inside, long));
+      never = λ many. (none (omega (arith, many, long)), other many);
+    })
+
+-- and with a space after it
+pub front_of_spaced : (w s f m : List ℕ) (n : ℕ) → s ≡ w → n ≡ length s + 1 → (length s < 16 → (k : ℕ) → k < length s → get_or f k 0 ≡ get_or s k 0) → (length s < 16 → get_or f (length s) 0 ≡ 32)
+    → (16 ≤ length s → get_or f 0 0 ≡ 1) → (n ≤ 16 → (k : ℕ) → k < n → get_or m k 0 ≡ 255) → (16 < n → get_or m 0 0 ≡ 0) → IsFront (w ++ 32 ∷ []) f m
+front_of_spaced w s f m n is long bytes space other bits none =
+    let count : length (s ++ 32 ∷ []) ≡ length s + 1 = length-append s (32 ∷ []) in
+    subst (λ (x : List ℕ). IsFront (x ++ 32 ∷ []) f m) is (record {
+      bytes = λ few k inside.
+          let short : length s < 16 = omega (arith, few, count) in
+          ⊎_elim (λ low. bytes short k low ∙ sym (get_or_append_left s (32 ∷ []) 0 k low))
+          (λ high. let last : k ≡ length s = omega (arith, high, inside, count) in
+          ap (λ (j : ℕ). get_or f j 0) last ∙ space short ∙ sym (get_or_at s 32 [] 0 (length s) refl) ∙ sym (ap (λ (j : ℕ). get_or (s ++ 32 ∷ []) j 0) last)) (cases_lt k (length s));
+      bits = λ few k inside. bits (omega (arith, few, count, long)) k (omega (arith, inside, count, long));
+      never = λ many. (none (omega (arith, many, count, long)), other (omega (arith, many, count)));
+    })

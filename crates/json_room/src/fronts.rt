@@ -29,43 +29,74 @@ pub fn mask_of(count: usize) -> [u8; 16]
     mask
 }
 
-/// What `equal_bytes` returns where all sixteen are equal.
-pub(crate) const ALL_EQUAL: u64 = 0xffff;
+/// The bytes of a word of at most sixteen, with zeros after them; of a longer one, bytes that none are under its mask.
+pub(crate) fn whole_front(word: &[u8]) -> [u8; 16]
+    ensures word { length word.now ≤ 16 → (k : ℕ) → k < length word.now → get_or result k 0 ≡ get_or word.now k 0 }
+    ensures never { 16 < length word.now → get_or result 0 0 ≡ 1 }
+{
+    if word.len() > 16 {
+        return never_front();
+    }
+    front_of(word)
+}
 
-/// What `equal_bytes` never returns.
-pub(crate) const NEVER: u64 = 0x1_0000;
+/// The same with a space after the word.
+pub(crate) fn spaced_front(word: &[u8]) -> [u8; 16]
+    ensures word { length word.now < 16 → (k : ℕ) → k < length word.now → get_or result k 0 ≡ get_or word.now k 0 }
+    ensures space { length word.now < 16 → get_or result (length word.now) 0 ≡ 32 }
+    ensures never { 16 ≤ length word.now → get_or result 0 0 ≡ 1 }
+{
+    let end = word.len();
+    if end >= 16 {
+        return never_front();
+    }
+    with_space(front_of(word), end)
+}
 
-/// Whether sixteen bytes are these, where the mask has all bits. Its clause says nothing of false.
+/// The first bytes of a word that ends there, with a space after it.
+fn with_space(front: [u8; 16], end: usize) -> [u8; 16]
+    ensures word { (k : ℕ) → k < end → get_or result k 0 ≡ get_or front k 0 }
+    ensures space { end < 16 → get_or result end 0 ≡ 32 }
+{
+    let mut spaced = front;
+    if end < 16 {
+        spaced[end] = b' ';
+    }
+    spaced
+}
+
+/// All bits of so many bytes; none where they are more than sixteen.
+pub(crate) fn whole_mask(count: usize) -> [u8; 16]
+    ensures word { count ≤ 16 → (k : ℕ) → k < count → get_or result k 0 ≡ 255 }
+    ensures never { 16 < count → get_or result 0 0 ≡ 0 }
+{
+    if count > 16 {
+        return [0; 16];
+    }
+    mask_of(count)
+}
+
+/// Sixteen bytes that none are under a mask without bits.
+fn never_front() -> [u8; 16]
+    ensures { get_or result 0 0 ≡ 1 }
+{
+    let mut front = [0; 16];
+    front[0] = 1;
+    front
+}
+
+/// Whether sixteen bytes are these, where the mask has all bits. Its clauses say nothing of false.
 #[inline(always)]
 pub fn are_front(lanes: u8x16, mask: u8x16, front: u8x16) -> bool
-    ensures { IsTrue result → (k : ℕ) → k < 16 → get_or mask k 0 ≡ 255 → get_or lanes k 0 ≡ get_or front k 0 }
+    ensures same { IsTrue result → (k : ℕ) → k < 16 → get_or mask k 0 ≡ 255 → get_or lanes k 0 ≡ get_or front k 0 }
+    ensures never { IsTrue result → get_or mask 0 0 ≡ 0 → get_or front 0 0 ≡ 0 }
 {
-    equal_bytes(lanes, mask, front) == ALL_EQUAL
-}
-
-/// Returns a bit for each of sixteen bytes: whether it is that of the other, where the mask has all bits. Its clauses
-/// say nothing of single bits.
-#[inline(always)]
-pub(crate) fn equal_bytes(lanes: u8x16, mask: u8x16, front: u8x16) -> u64
-    ensures all { result ≡ 65535 → (k : ℕ) → k < 16 → get_or mask k 0 ≡ 255 → get_or lanes k 0 ≡ get_or front k 0 }
-    ensures few { result < 65536 }
-{
-    equal_lanes((lanes ^ front) & mask, u8x16::splat(0))
+    are_equal_16(lanes & mask, front)
 }
 
 #[inline(always)]
-fn equal_lanes(lanes: u8x16, others: u8x16) -> u64
-    ensures all { result ≡ 65535 → lanes ≡ others }
-    ensures few { result < 65536 }
+fn are_equal_16(lanes: u8x16, others: u8x16) -> bool
+    ensures { IsTrue result → lanes ≡ others }
 {
-    lanes.simd_eq(others).to_bitmask()
-}
-
-/// What `equal_bytes` returns where a word of so many bytes stands there; what it never returns where the word has more
-/// than sixteen.
-pub(crate) fn wanted_of(count: usize) -> u64
-    ensures all { result < 65536 → result ≡ 65535 }
-    ensures short { result < 65536 → count ≤ 16 }
-{
-    if count <= 16 { ALL_EQUAL } else { NEVER }
+    lanes.simd_eq(others).to_bitmask() == 0xffff
 }

@@ -22,7 +22,7 @@ mod utf8;
 mod words;
 
 pub use any_values::{any_number_end, any_value_end};
-pub use blanks::{has_comma_and_space, past_blanks};
+pub use blanks::past_blanks;
 pub use decode_buffer::DecodeBuffer;
 pub use escaped_texts::{any_text_at, escaped_text_end};
 pub use fronts::{are_front, front_of, mask_of};

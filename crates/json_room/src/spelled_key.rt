@@ -1,31 +1,29 @@
 //! A member's name as it is spelled in a line (RFC 8259, sections 4 and 7).
-ghost use Rattle.std.specs.Prelude.{◌≡◌, ℕ, ◌+◌, ◌<◌, ◌≤◌, ◌^◌, length, get_or, IfSome, IsTrue};
+ghost use Rattle.std.specs.Prelude.{◌≡◌, ℕ, ◌+◌, ◌<◌, ◌≤◌, ◌^◌, length, IfSome, IsTrue};
 ghost use Rattle.json_room.specs.Keys.{name_with_colon, spaced_name};
 ghost use Rattle.json_room.specs.LexemesAt.{BeginsKey};
 ghost use Rattle.json_room.specs.private.SpelledKey.{StandsByte};
 
 use super::blanks::past_blanks;
-use super::fronts::{ALL_EQUAL, equal_bytes, front_of, mask_of, wanted_of};
+use super::fronts::{are_front, spaced_front, whole_front, whole_mask};
 use super::key::Key;
 use super::roomy_line::RoomyLine;
 use std::alloc::Global;
 use std::marker::Model;
 use std::simd::prelude::*;
 
-/// A name with its quotes and its colon, of which the first sixteen bytes are compared at once.
+/// A name with its quotes and its colon. Sixteen bytes are compared at once, with a mask.
 #[derive(Drop)]
 pub struct SpelledKey {
     key: Key,
+    /// All its bytes if they are at most sixteen; else bytes that none are under the mask.
     front: [u8; 16],
-    /// All bits of each byte that the name has there.
     mask: [u8; 16],
-    /// What a comparison of these says where the name stands, if it is all there.
-    wanted: u64,
+    length: usize,
     /// The same with a space after the colon.
     spaced_front: [u8; 16],
     spaced_mask: [u8; 16],
-    spaced_wanted: u64,
-    length: usize,
+    spaced_length: usize,
 }
 
 impl Model for SpelledKey {
@@ -53,19 +51,19 @@ impl SpelledKey {
         };
         let spelled = key.with_colon();
         let length = spelled.len();
-        let front = front_of(spelled);
-        let mask = mask_of(length);
-        let spaced_front = with_space(front, length);
-        let spaced_mask = mask_of(length + 1);
+        let front = whole_front(spelled);
+        let mask = whole_mask(length);
+        let spaced = spaced_front(spelled);
+        let spaced_length = length + 1;
+        let spaced_mask = whole_mask(spaced_length);
         Some(SpelledKey {
             key,
             front,
             mask,
-            wanted: wanted_of(length),
-            spaced_front,
-            spaced_mask,
-            spaced_wanted: wanted_of(length + 1),
             length,
+            spaced_front: spaced,
+            spaced_mask,
+            spaced_length,
         })
     }
 
@@ -76,11 +74,23 @@ impl SpelledKey {
         ensures name { IfSome result (BeginsKey line.now place self.now) }
         ensures further { IfSome result (λ to. place < to) }
     {
-        let equal = self.equal_front(line, place);
-        if equal == self.wanted {
+        if self.front_stands(line, place) {
             return Some(place + self.length);
         }
-        if equal != ALL_EQUAL || !self.back_stands(line, place) {
+        if self.length <= 16 {
+            return None;
+        }
+        self.long_end(line, place)
+    }
+
+    /// The same of a name with more than sixteen bytes.
+    #[inline(never)]
+    fn long_end(&self, line: &RoomyLine<'_>, place: usize) -> Option<usize>
+        requires { place ≤ length line.now }
+        ensures name { IfSome result (BeginsKey line.now place self.now) }
+        ensures further { IfSome result (λ to. place < to) }
+    {
+        if !self.first_stand(line, place) || !self.back_stands(line, place) {
             return None;
         }
         Some(place + self.length)
@@ -94,12 +104,10 @@ impl SpelledKey {
         ensures name { IfSome result (BeginsKey line.now place self.now) }
         ensures further { IfSome result (λ to. place < to) }
     {
-        let equal = self.equal_spaced_front(line, place);
-        if equal == self.spaced_wanted {
-            let end = place + self.length;
-            return Some(end + 1);
+        if self.spaced_front_stands(line, place) {
+            return Some(place + self.spaced_length);
         }
-        if equal != ALL_EQUAL {
+        if self.length < 16 {
             return None;
         }
         self.long_spaced_end(line, place)
@@ -153,51 +161,56 @@ impl SpelledKey {
         word_stands(line, place, spelled, 16)
     }
 
-    /// Compares the first bytes, at most sixteen.
+    /// Whether the first sixteen bytes are there.
     #[inline(always)]
-    fn equal_front(&self, line: &RoomyLine<'_>, place: usize) -> u64
+    fn first_stand(&self, line: &RoomyLine<'_>, place: usize) -> bool
         requires { place ≤ length line.now }
-        ensures stands { result ≡ 65535 → (k : ℕ) → k < 16 → StandsByte line.now place (name_with_colon self.now) k }
-        ensures few { result < 65536 }
+        ensures stands { IsTrue result → (k : ℕ) → k < 16 → StandsByte line.now place (name_with_colon self.now) k }
+        ensures short { length line.now + 64 < 2 ^ 63 }
+    {
+        let bytes = line.bytes();
+        let spelled = self.key.with_colon();
+        if spelled.len() < 16 {
+            return false;
+        }
+        are_front(
+            u8x16::from_slice(&bytes[place..]),
+            u8x16::splat(0xff),
+            u8x16::from_slice(spelled),
+        )
+    }
+
+    /// Whether all bytes are there, where they are at most sixteen.
+    #[inline(always)]
+    fn front_stands(&self, line: &RoomyLine<'_>, place: usize) -> bool
+        requires { place ≤ length line.now }
+        ensures stands { IsTrue result → (k : ℕ) → StandsByte line.now place (name_with_colon self.now) k }
         ensures short { length line.now + 64 < 2 ^ 63 }
     {
         let bytes = line.bytes();
         let lanes = u8x16::from_slice(&bytes[place..]);
-        equal_bytes(
+        are_front(
             lanes,
             u8x16::from_array(self.mask),
             u8x16::from_array(self.front),
         )
     }
 
-    /// Compares the first bytes with a space after the colon, at most sixteen.
+    /// The same with a space after the colon.
     #[inline(always)]
-    fn equal_spaced_front(&self, line: &RoomyLine<'_>, place: usize) -> u64
+    fn spaced_front_stands(&self, line: &RoomyLine<'_>, place: usize) -> bool
         requires { place ≤ length line.now }
-        ensures stands { result ≡ 65535 → (k : ℕ) → k < 16 → StandsByte line.now place (spaced_name self.now) k }
-        ensures few { result < 65536 }
+        ensures stands { IsTrue result → (k : ℕ) → StandsByte line.now place (spaced_name self.now) k }
         ensures short { length line.now + 64 < 2 ^ 63 }
     {
         let bytes = line.bytes();
         let lanes = u8x16::from_slice(&bytes[place..]);
-        equal_bytes(
+        are_front(
             lanes,
             u8x16::from_array(self.spaced_mask),
             u8x16::from_array(self.spaced_front),
         )
     }
-}
-
-/// The first bytes of a word that ends there, with a space after it.
-fn with_space(front: [u8; 16], end: usize) -> [u8; 16]
-    ensures word { (k : ℕ) → k < end → get_or result k 0 ≡ get_or front k 0 }
-    ensures space { end < 16 → get_or result end 0 ≡ 32 }
-{
-    let mut spaced = front;
-    if end < 16 {
-        spaced[end] = b' ';
-    }
-    spaced
 }
 
 /// Whether the bytes of a word from that index on are there, where the word begins at an offset.

@@ -1,10 +1,12 @@
-use Rattle.std.proofs.Common.{◌≡◌, ◌+◌, ◌-◌, ◌^◌, ◌<◌, ◌≤◌, ℕ, List, length, get_or, slice_get, Bool, Option, option_map, Bor, Some, IfSome, IsSome, refl, sym, ap, ◌∙◌, subst, rules, arith}
+use Rattle.std.proofs.Common.{◌≡◌, ◌+◌, ◌-◌, ◌^◌, ◌<◌, ◌≤◌, ℕ, List, length, get_or, slice_get, Option, option_map, Bor, Some, IfSome, IsSome, refl, sym, ap, ◌∙◌, subst, rules, arith}
 use Rattle.std.proofs.lemmas.Option.{slice_get_read}
 use Rattle.std.specs.Prelude.{bit_or}
 use Rattle.std.specs.Str.{IsUtf8}
 use Rattle.json.specs.Token.{Token}
 use Rattle.serde_json.specs.Read.{number_of}
 use Rattle.csdl_schema.specs.ExprType.{enumeration, primitive, single}
+use Rattle.csdl_schema.specs.SchemaModel.{slots_of}
+use Rattle.enumeration_texts.specs.EnumerationTexts.{IsMemberTextAt}
 use Rattle.json_room.proofs.LexemeLemmas.{stay}
 use Rattle.json_room.specs.WholeNumbers.{IsWhole}
 use Rattle.json_room.specs.private.Lexemes.{IsTextAt}
@@ -24,7 +26,7 @@ use Rattle.json_room.proofs.Places.{any_json, any_number, both_some, token_to}
 use Rattle.edm_rows.specs.private.Contexts.{FindsSlot, PassesItems, PassesMembers, PassesValue, slots_behind_node}
 use Rattle.edm_rows.proofs.ContextLemmas.{ContextUpTo, Joined, held_bracket, held_comma, held_start, items_held, joined_as, joined_other, joined_slot, no_items_held, mark_found, value_found, record_held, room_of, context_comma, context_empty, context_over, context_start, type_there, value_behind}
 use Rattle.edm_rows.proofs.SeenBits.{unseen_optional}
-use Rattle.edm_rows.proofs.Values.{date_to, digits_held, guid_to, items_single, moment_to, primitive_as, record_slot, some_by, task_held, text_held, truth_held}
+use Rattle.edm_rows.proofs.Values.{date_to, digits_held, guid_to, items_single, known_held, moment_to, primitive_as, record_slot, some_by, task_held, text_held, truth_held}
 use Rattle.edm_rows.proofs.+pass.Goals.{members::pass_members-in-Some-slot+in-Some-value_end, members::pass_members-in-None}
 use Rattle.edm_rows.proofs.+pass.Goals as goal
 
@@ -95,7 +97,9 @@ passed_value::sure_end-returns-in-Member-clause-passed g t c =
     let slot = c.args.slot.now in
     let slots = slots_behind_node context slot.node in
     task_held slots (kinds_of schema context.plan.now.plans.items slot) slot.is_nullable slot.item c.args.cache.now.depth context.line c.args.place c.args.task task.Member (enumeration (name_at schema slot.member_of)) c.text_end-in-Member.result
-    c.in-Member.is (λ json fits. fits) (c.text_end-in-Member.ensures schema c.args.cache.now.depth c.requires.context.1)
+    c.in-Member.is (λ json fits. fits)
+    (some_by c.text_end-in-Member.result (IsMemberTextAt schema slot.member_of context.line c.args.place) (λ to. ValueStands c.args.cache.now.depth context.line c.args.place to (FitsSomeHowever (slots_of schema) (single (enumeration (name_at schema slot.member_of)))))
+    (λ to found. known_held schema slot.member_of c.args.cache.now.depth context.line c.args.place to found) (c.text_end-in-Member.ensures schema c.requires.context.1.texts))
 
 pub passed_value::sure_end-record_end-requires : goal.passed_value::sure_end-record_end-requires
 passed_value::sure_end-record_end-requires g t c =

@@ -15,7 +15,7 @@ use Rattle.edm_rows.specs.declared.row_types.Task.{Task}
 use Rattle.json_room.specs.ValueStands.{ValueStands}
 use Rattle.json_room.specs.private.ValuesStand.{PassesTo}
 use Rattle.edm_rows.specs.private.Held.{IsHeldTo, type_of}
-use Rattle.edm_rows.specs.private.KnownTexts.{AreKnown}
+use Rattle.edm_rows.specs.private.LookedUp.{AreKnown}
 use Rattle.edm_rows.specs.private.Members.{NamesSlot, PassesOther}
 use Rattle.edm_rows.specs.private.RowSlots.{AreRowTypes, kinds_of}
 

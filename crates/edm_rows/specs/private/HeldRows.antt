@@ -23,7 +23,7 @@ use Rattle.edm_rows.specs.private.KeptRows.{TakesFound, TakesRow}
 use Rattle.edm_rows.specs.declared.row_types.RowSlot.{RowSlot}
 use Rattle.edm_rows.specs.declared.row_types.RowType.{RowType}
 use Rattle.edm_rows.specs.declared.type_rows.TypeRows.TheInside.{Inside}
-use Rattle.edm_rows.specs.private.KnownTexts.{AreKnown}
+use Rattle.edm_rows.specs.private.LookedUp.{AreKnown}
 use Rattle.edm_rows.specs.private.RowSlots.{AreRowTypes, IsRowType}
 
 -- the slots of the row's own type, which is the first

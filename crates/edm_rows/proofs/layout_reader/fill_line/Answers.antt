@@ -8,6 +8,7 @@ use Rattle.edm_rows.specs.RowLayout.{IsRowOfLine, LayoutOfRows}
 use Rattle.edm_rows.specs.declared.row_types.RowType.{RowType}
 use Rattle.edm_rows.specs.private.HeldRows.{AreKept, AreTypesOf, HasFirstType}
 use Rattle.edm_rows.specs.private.LayoutRows.{row_by}
+use Rattle.edm_rows.specs.private.RowSlots.{AreRowTypes}
 use Rattle.edm_rows.proofs.RowsFilled.{filled_entity, filled_line}
 use Rattle.edm_rows.proofs.TypesChanged.{first_distinct, types_there}
 use Rattle.edm_rows.proofs.TypesKept.{none_passed}
@@ -19,6 +20,16 @@ fill_row-requires-clause-first c =
     let some : 0 < length layout.types.items = omega arith in
     let are = types_there (schema_in layout.schema) layout.plan layout.types.items some c.layout.invariant.types in
     subst (λ (l : List RowType). HasFirstType layout.plan l) (sym c.as_slice.ensures.value) are.first
+
+pub fill_row-requires-clause-context : goal.fill_row-requires-clause-context
+fill_row-requires-clause-context c =
+    let layout = c.layout.inside in
+    let some : 0 < length layout.types.items = omega arith in
+    let are = types_there (schema_in layout.schema) layout.plan layout.types.items some c.layout.invariant.types in (
+      subst (λ (l : List RowType). AreRowTypes c.schema.result.now layout.plan.expansion layout.plan.plans.items l) (sym c.as_slice.ensures.value)
+          (subst (λ (s : SchemaModel). AreRowTypes s layout.plan.expansion layout.plan.plans.items layout.types.items) (sym c.schema.ensures) are.each),
+      c.new-known.ensures c.schema.result.now,
+    )
 
 pub returns-clause-entity : goal.returns-clause-entity
 returns-clause-entity c done =

@@ -1,5 +1,7 @@
-use Rattle.std.proofs.Common.{◌≡◌, inl, length, Some, slice_get, refl, ap, ◌∙◌, arith}
+use Rattle.std.proofs.Common.{◌≡◌, ℕ, inl, length, Some, slice_get, refl, sym, ap, ◌∙◌, subst, arith}
 use Rattle.std.proofs.lemmas.Option.{slice_get_read}
+use Rattle.csdl_schema.specs.SchemaModel.{properties_at}
+use Rattle.edm_rows.specs.private.Members.{FindsName}
 use Rattle.edm_rows.proofs.NextMembers.{as_many, slot_named}
 use Rattle.json_room.proofs.Places.{names_to}
 use Rattle.edm_rows.proofs.members.named_member.Goals.{else-len-le-FEW_SLOTS, then-len-le-FEW_SLOTS+else-loop-slot-test}
@@ -32,8 +34,14 @@ returns-in_default-slot_at-clause-depth c = elim c.if-len-le-FEW_SLOTS.branch [
   | else-len-le-FEW_SLOTS w ↦ ap (λ k. k.depth) w.cache-is
 ]
 
+pub returns-clause-name : goal.returns-clause-name
+returns-clause-name c =
+    let context = c.args.context.now in
+    let ps = properties_at context.schema.now c.args.plan.now.type_id in
+    subst (λ (k : ℕ). FindsName context.line ps k c.args.place c.in-Some-slot_at.end) (sym c.note_name.ensures.slot) c.in-Some-slot_at.ensures
+
 pub returns-clause-depth : goal.returns-clause-depth
-returns-clause-depth c = elim c.if-len-le-FEW_SLOTS.branch [
+returns-clause-depth c = c.note_name.ensures.depth ∙ elim c.if-len-le-FEW_SLOTS.branch [
   | then-len-le-FEW_SLOTS+else-loop-slot-test w ↦ ap (λ k. k.depth) w.cache-is ∙ w.loop-slot.invariant
   | else-len-le-FEW_SLOTS w ↦ ap (λ k. k.depth) w.cache-is
 ]

@@ -6,7 +6,7 @@ use Rattle.edm_row_plans.specs.Plans.{IsPlanOf}
 use Rattle.edm_rows.specs.RowsOfType.{RowsOfType}
 use Rattle.edm_rows.specs.declared.row_types.RowType.{RowType}
 use Rattle.edm_rows.specs.private.HeldRows.{AreTypesOf, HasFirstType, ReadsRowAt, rows_seen}
-use Rattle.edm_rows.specs.private.KnownTexts.{AreKnown}
+use Rattle.edm_rows.specs.private.LookedUp.{AreKnown}
 use Rattle.edm_rows.specs.declared.kept_leaf.Taken.{Taken}
 use Rattle.edm_rows.specs.declared.kept_leaf.Taken.TheVariants.{Broken, Put, Rejected}
 use Rattle.edm_values.specs.declared.value.Value.{Value}

@@ -1,0 +1,2 @@
+mod TextsStand
+mod TextsStored

@@ -1,0 +1,2 @@
+pub mod EnumerationTexts
+pub mod private
