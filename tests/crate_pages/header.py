@@ -170,7 +170,7 @@ def names_of_statuses():
 
 def names_of_faults():
     """The names of faults that the sources have, by what is at fault."""
-    text = text_of("crates/odata_filter/src/fault_number.rt")
+    text = text_of("crates/fault_numbers/src/fault_number.rt")
     for kind, body in re.findall(r"const (\w+)_NAMES: &\[&str\] = &\[(.*?)\];", text, re.DOTALL):
         names = re.findall(r'"(\w*)"', body)
         yield {"TYPING": "TYPE", "EVALUATION": "EVAL"}.get(kind, kind), dict(enumerate(names, 1))
@@ -192,7 +192,7 @@ def checks():
         if kind == "QUERY":
             names[5] = "Disguised"
         wanted = {number: name for number, name in names.items() if name}
-        yield f"{HEADER}: the faults of {kind} are not those of odata_filter", has == wanted
+        yield f"{HEADER}: the faults of {kind} are not those of fault_numbers", has == wanted
     for name, path in (("answer", "handle_calls/src/answer"), ("bytes", "odfilter_c/src/c_types"),
                        ("buffer", "odfilter_c/src/c_types")):
         struct = next(it for it in found["structs"] if it["name"] == f"odfilter_{name}")

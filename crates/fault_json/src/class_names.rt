@@ -1,6 +1,6 @@
 //! The names of classes and of their faults, as an object has them.
+use fault_numbers::{FaultKind, fault_name};
 use fault_sentences::{FaultClass, Report};
-use odata_filter::{FaultKind, fault_name};
 
 /// The name of a class.
 pub fn class_name(class: FaultClass) -> &'static str {

@@ -1,13 +1,4 @@
 pub mod CanonicalRows
-pub mod Collections
-pub mod DeviceCalls
-pub mod KnownItems
-pub mod KnownCollections
-pub mod LineFeeds
-pub mod LinesOpen
-pub mod RowLineJudges
 pub mod OneCollection
 pub mod OneFault
-pub mod PassedFaults
-pub mod Renamed
 pub mod TrueRows

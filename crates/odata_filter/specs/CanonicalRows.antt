@@ -11,13 +11,13 @@ use Rattle.odata_eval.specs.declared.verdict.Verdict.{Verdict}
 use Rattle.line_filter.specs.Kept.{Filters}
 use Rattle.line_filter.specs.declared.judge.Judgment.{Judgment}
 use Rattle.line_filter.specs.declared.tally.Tally.{Tally}
-use Rattle.odata_filter.specs.Collection.{OfCollection, StopsCollection}
+use Rattle.filter_runs.specs.Collection.{OfCollection, StopsCollection}
 use Rattle.odata_filter.specs.Headline.{IsCheckedOf, IsEntityFor}
 use Rattle.row_judges.specs.RowAnswer.{ReportsRow}
 use Rattle.row_judges.specs.RowJudgment.{FilterMeans, JudgesRow, JudgesValue, rows_of}
-use Rattle.odata_filter.specs.RunStops.{StopsBy}
+use Rattle.filter_runs.specs.RunStops.{StopsBy}
 use Rattle.row_judges.specs.declared.bad_row.BadRow.{BadRow}
-use Rattle.odata_filter.specs.declared.run_fault.RunFault.{RunFault}
+use Rattle.filter_runs.specs.declared.run_fault.RunFault.{RunFault}
 
 -- `check` accepts the text as the first filter, and the canonical text of that as the second, for the same type of the
 -- same schema

@@ -4,8 +4,8 @@ use Rattle.csdl_declarations.specs.declared.schema_fault.SchemaFault.TheVariants
 use Rattle.odata_filter.specs.Run.{Status, at_fault, without_device, without_filter, without_memory, without_plan, without_type}
 use Rattle.odata_filter.specs.declared.command.failure.Failure.{Failure}
 use Rattle.odata_filter.specs.declared.command.failure.Failure.TheVariants.{NotAMoment, OneOf, Schema, UnknownType, Query, NoOption, Refused, NoMoment, RowsFile, Rows}
-use Rattle.odata_filter.specs.declared.run_fault.RunFault.{RunFault}
-use Rattle.odata_filter.specs.declared.run_fault.RunFault.TheVariants as rows
+use Rattle.filter_runs.specs.declared.run_fault.RunFault.{RunFault}
+use Rattle.filter_runs.specs.declared.run_fault.RunFault.TheVariants as rows
 use Rattle.odata_queries.specs.declared.query_fault.QueryFault.{QueryFault}
 use Rattle.odata_queries.specs.declared.query_fault.QueryFault.TheVariants as query
 use Rattle.odata_signatures.specs.declared.refusal.Refusal.{Refusal}

@@ -26,9 +26,9 @@ use Rattle.line_filter.specs.declared.judge.Judgment.{Judgment}
 use Rattle.line_filter.specs.declared.tally.Tally.{Tally}
 use Rattle.row_judges.specs.RowJudgment.{FilterMeans, JudgesRow, rows_of}
 use Rattle.odata_filter.specs.StopsOnce.{IsOfRow}
-use Rattle.odata_filter.specs.RunStops.{StopsBy}
+use Rattle.filter_runs.specs.RunStops.{StopsBy}
 use Rattle.row_judges.specs.declared.bad_row.BadRow.{BadRow}
-use Rattle.odata_filter.specs.declared.run_fault.RunFault.{RunFault}
+use Rattle.filter_runs.specs.declared.run_fault.RunFault.{RunFault}
 
 -- what `check` says of the filter that it answers for a text
 pub record IsCheckedOf (text : List ℕ) (filter : Filter) : Type 0 where

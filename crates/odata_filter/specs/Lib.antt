@@ -16,6 +16,10 @@ pub use Rattle.edm_values.specs.MomentParts
 pub use Rattle.edm_values.specs.PlainVal
 pub use Rattle.edm_values.specs.StringLiteral
 pub use Rattle.edm_values.specs.Val
+pub use Rattle.fault_numbers.specs.FaultNumbers
+pub use Rattle.filter_runs.specs.Collection
+pub use Rattle.filter_runs.specs.DeviceFaults
+pub use Rattle.filter_runs.specs.RunStops
 pub use Rattle.line_filter.specs.CallLogs
 pub use Rattle.line_filter.specs.Growth
 pub use Rattle.line_filter.specs.Kept
@@ -52,13 +56,10 @@ pub use Rattle.serde_json.specs.Data as JsonData
 pub use Rattle.serde_json.specs.Find as JsonFind
 pub use Rattle.serde_json.specs.Read as JsonRead
 pub use Rattle.serde_json.specs.View as JsonView
-pub mod RunStops
-pub mod DeviceFaults
-pub mod Collection
 pub mod StopsOnce
-pub mod FaultNumbers
 pub mod Headline
 pub mod CanonicalRows
+pub mod ReadErrors
 pub mod Planned
 pub mod Run
 pub mod RunsPastFaults

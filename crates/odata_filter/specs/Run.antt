@@ -13,7 +13,7 @@ use Rattle.line_filter.specs.declared.tally.Tally.{Tally}
 use Rattle.line_filter.specs.ItemIndexes.{IndexedItem}
 use Rattle.serde_json.specs.Data.{Data}
 use Rattle.row_judges.specs.RowJudgment.{rows_of}
-use Rattle.odata_filter.specs.Collection.{IsNoCollection, OfCollection}
+use Rattle.filter_runs.specs.Collection.{IsNoCollection, OfCollection}
 use Rattle.row_judges.specs.declared.bad_row.BadRow.{BadRow}
 use Rattle.csdl_schema.specs.Document.{StandsFor, IsFirstDocumentFault}
 use Rattle.csdl_declarations.specs.Fault.{Fault}

@@ -1,7 +1,7 @@
 -- What can be said of a run once only.
 use Rattle.std.specs.Prelude.{◌≡◌}
-use Rattle.odata_filter.specs.declared.run_fault.RunFault.{RunFault}
-use Rattle.row_judges.specs.RowsOnce.{flaw_reported}
+use Rattle.filter_runs.specs.declared.run_fault.RunFault.{RunFault}
+use Rattle.fault_numbers.specs.FaultNumbers.{flaw_reported}
 
 -- a fault of a row or of its line, and of no device
 abbrev pub IsOfRow : RunFault → Type 0

@@ -1,3 +1,2 @@
 -- Definitions that private clauses alone cite.
-pub mod Collection
 pub mod RunFailures

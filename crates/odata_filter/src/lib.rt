@@ -11,32 +11,26 @@
 //! ```
 #![tactic(auto)]
 
-mod collection;
 mod command;
-mod fault_number;
-mod filter;
 mod headline;
-mod known_verdicts;
 mod laws;
-mod past_faults;
-mod run_fault;
 
-pub use collection::{filter_collection, filter_collection_with};
 pub use command::failure::Failure;
 pub use command::run_past_faults::run_past_faults;
 pub use command::runner::{Ended, report_failure, run, run_to_failure};
 pub use command::whole_input::{ReadAllError, read_whole, read_whole_with};
 pub use command_plan::{command_line, lines_by_example, plan, reports_by_example, request};
-pub use fault_number::{FaultKind, Numbered, fault_name, refusal_span, row_fault_path};
-pub use filter::{filter_lines, filter_lines_with, filter_slice};
+pub use fault_numbers::{FaultKind, Numbered, fault_name, refusal_span, row_fault_path};
+pub use filter_runs::{
+    FilterAt, RunFault, filter_collection, filter_collection_with, filter_lines, filter_lines_with,
+    filter_past_faults, filter_slice,
+};
 pub use headline::{canonical_texts_keep_rows, filters_keep_what_is_true};
 pub use laws::{collections_stop_once, rows_stop_once, unfailing_devices_never_fail};
 pub use line_filter::{
     ByRecord, CallLog, Called, Input, LineFault, LineReader, Logged, NotRead, NotWritten, Output,
     Part, PartReader, Reads, TakesFaults, Tally, Through, Unfailing, Unlogged, Writes, part_of,
 };
-pub use past_faults::{FilterAt, filter_past_faults};
 pub use row_judges::{
     BadRow, BoundedJudge, FilterRows, judge_row, row_layout_of, rows_are_reported_once,
 };
-pub use run_fault::RunFault;

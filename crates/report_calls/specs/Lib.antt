@@ -1,3 +1,4 @@
+pub use Rattle.fault_numbers.specs.FaultNumbers
 pub use Rattle.fault_sentences.specs.Numbers
 pub use Rattle.handle_calls.specs.Answers
 pub use Rattle.handle_calls.specs.Kinds
@@ -6,7 +7,6 @@ pub use Rattle.handle_calls.specs.RowCalls
 pub use Rattle.handle_calls.specs.Texts
 pub use Rattle.odata_checked_filter.specs.Calls
 pub use Rattle.odata_checked_filter.specs.Filter
-pub use Rattle.odata_filter.specs.FaultNumbers
 pub use Rattle.odata_sql.specs.Conditions
 pub use Rattle.odata_sql.specs.JsonText
 pub use Rattle.odata_sql.specs.Translation

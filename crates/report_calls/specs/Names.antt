@@ -1,7 +1,7 @@
 -- The names of statuses, and of the faults under them.
 use Rattle.std.specs.Prelude.{ℕ, ◌&&◌, List, [], ◌∷◌, cond, eqb, codes, Option, None, Some, Result, Ok, Err}
-use Rattle.odata_filter.specs.FaultNumbers.{name_at, names_of}
-use Rattle.odata_filter.specs.declared.fault_number.FaultKind.{FaultKind}
+use Rattle.fault_numbers.specs.FaultNumbers.{name_at, names_of}
+use Rattle.fault_numbers.specs.declared.fault_number.FaultKind.{FaultKind}
 use Rattle.handle_calls.specs.declared.call_fault.Fault.{Fault}
 
 -- what a list has for a number

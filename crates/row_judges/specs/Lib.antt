@@ -7,6 +7,7 @@ pub use Rattle.edm_entities.specs.Row
 pub use Rattle.edm_entities.specs.RowFaults
 pub use Rattle.edm_values.specs.MomentParts
 pub use Rattle.edm_values.specs.Val
+pub use Rattle.fault_numbers.specs.FaultNumbers
 pub use Rattle.line_filter.specs.Growth
 pub use Rattle.line_filter.specs.Kept
 pub use Rattle.line_filter.specs.LineItems

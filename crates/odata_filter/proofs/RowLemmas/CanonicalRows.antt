@@ -33,13 +33,13 @@ use Rattle.line_filter.specs.declared.judge.Judgment.{Judgment}
 use Rattle.line_filter.specs.declared.run_stop.RunStop.{RunStop}
 use Rattle.line_filter.specs.declared.tally.Tally.{Tally}
 use Rattle.odata_filter.specs.CanonicalRows.{HaveSameEntities, HaveSameOutcomes, IsCheckedAgain, KeepSameItems, KeepSameLines, OfBoth, SaySameOfRows, SaySameOfValues, StopAlike, StopCollectionsAlike, AnswerRowsAlike}
-use Rattle.odata_filter.specs.Collection.{OfCollection, StopsCollection, entities_of}
+use Rattle.filter_runs.specs.Collection.{OfCollection, StopsCollection, entities_of}
 use Rattle.odata_filter.specs.Headline.{IsCheckedOf, IsEntityFor}
 use Rattle.row_judges.specs.RowAnswer.{ReportsRow}
 use Rattle.row_judges.specs.RowJudgment.{FilterMeans, HasOutcome, JudgesJson, JudgesRow, JudgesValue, rows_of}
-use Rattle.odata_filter.specs.RunStops.{StopsBy, run_stop}
+use Rattle.filter_runs.specs.RunStops.{StopsBy, run_stop}
 use Rattle.row_judges.specs.declared.bad_row.BadRow.{BadRow}
-use Rattle.odata_filter.specs.declared.run_fault.RunFault.{RunFault}
+use Rattle.filter_runs.specs.declared.run_fault.RunFault.{RunFault}
 
 -- ---- items of which the same is found
 

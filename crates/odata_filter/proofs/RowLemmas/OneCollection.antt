@@ -10,12 +10,12 @@ use Rattle.line_filter.specs.ItemIndexes.{IndexedItem}
 use Rattle.line_filter.specs.declared.judge.Judgment.{Judgment}
 use Rattle.line_filter.specs.declared.tally.Tally.{Tally}
 use Rattle.odata_checked_filter.specs.Filter.{Filter}
-use Rattle.odata_filter.specs.Collection.{IsCollectionOf, IsNoCollection, OfCollection, StopsCollection, array_of, entities_of}
+use Rattle.filter_runs.specs.Collection.{IsCollectionOf, IsNoCollection, OfCollection, StopsCollection, array_of, entities_of}
 use Rattle.row_judges.specs.RowJudgment.{JudgesValue}
 use Rattle.row_judges.specs.RowsOnce.{AreSameJudgment}
 use Rattle.odata_filter.specs.StopsOnce.{AreSameFault, IsOfDocument}
 use Rattle.row_judges.specs.declared.bad_row.BadRow.{BadRow}
-use Rattle.odata_filter.specs.declared.run_fault.RunFault.{RunFault}
+use Rattle.filter_runs.specs.declared.run_fault.RunFault.{RunFault}
 
 -- ---- a document is a collection of one list of items, or it is none
 

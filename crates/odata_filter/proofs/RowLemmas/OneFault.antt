@@ -5,10 +5,10 @@ use Rattle.line_filter.specs.LineItems.{LineJudge, IsFoundOf, lines}
 use Rattle.line_filter.specs.Once.{kind_of, IsFaulty}
 use Rattle.line_filter.specs.declared.judge.Judgment.{Judgment}
 use Rattle.row_judges.specs.declared.bad_row.BadRow.{BadRow}
-use Rattle.odata_filter.specs.declared.run_fault.RunFault.{RunFault}
+use Rattle.filter_runs.specs.declared.run_fault.RunFault.{RunFault}
 use Rattle.row_judges.specs.RowsOnce.{AreSameJudgment}
 use Rattle.odata_filter.specs.StopsOnce.{AreSameFault, IsOfRow}
-use Rattle.odata_filter.specs.RunStops.{StopsBy}
+use Rattle.filter_runs.specs.RunStops.{StopsBy}
 
 -- the same judgments are of one kind
 pub same_kind : (j k : Judgment BadRow) → AreSameJudgment j k → kind_of j ≡ kind_of k

@@ -30,9 +30,9 @@ use Rattle.odata_filter.specs.Headline.{IsCheckedOf, ConformsTo, IsEntityFor, Is
 use Rattle.odata_filter.specs.Headline.{IsTrueRow, KeepTrueRows, ArePicked, HasTrueRows, WriteTrueRows, StopAtFaults}
 use Rattle.row_judges.specs.RowJudgment.{FilterMeans, JudgesRow, rows_of}
 use Rattle.odata_filter.specs.StopsOnce.{IsOfRow}
-use Rattle.odata_filter.specs.RunStops.{StopsBy}
+use Rattle.filter_runs.specs.RunStops.{StopsBy}
 use Rattle.row_judges.specs.declared.bad_row.BadRow.{BadRow}
-use Rattle.odata_filter.specs.declared.run_fault.RunFault.{RunFault}
+use Rattle.filter_runs.specs.declared.run_fault.RunFault.{RunFault}
 use Rattle.row_judges.specs.RowsOnce.{AreSameJudgment}
 
 -- the law of what fits and its type, as it is cited

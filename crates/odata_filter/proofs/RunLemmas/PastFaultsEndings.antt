@@ -11,11 +11,11 @@ use Rattle.line_filter.specs.declared.run_stop.RunStop.{RunStop}
 use Rattle.odata_checked_filter.specs.Filter.{Filter}
 use Rattle.odata_filter.specs.FailureStatus.{status_of}
 use Rattle.odata_filter.specs.Run.{IsReady, LacksMoment, OverRows, StopsAtFault, Streams, WroteNothing}
-use Rattle.odata_filter.specs.RunStops.{StopsBy, run_stop}
+use Rattle.filter_runs.specs.RunStops.{StopsBy, run_stop}
 use Rattle.odata_filter.specs.RunsPastFaults.{FailsPastFaults, StopsPastFaults}
 use Rattle.odata_filter.specs.declared.command.failure.Failure.{Failure}
-use Rattle.odata_filter.specs.declared.run_fault.RunFault.{RunFault}
-use Rattle.odata_filter.specs.declared.run_fault.RunFault.TheVariants.{Json, Row, Arithmetic, LineTooLong, NotACollection, Read, Write, Memory}
+use Rattle.filter_runs.specs.declared.run_fault.RunFault.{RunFault}
+use Rattle.filter_runs.specs.declared.run_fault.RunFault.TheVariants.{Json, Row, Arithmetic, LineTooLong, NotACollection, Read, Write, Memory}
 use Rattle.odata_filter.specs.private.RunFailures.{EndsOver, status_of_end}
 use Rattle.odata_filter.proofs.RunLemmas.RowEndings.{over_from}
 use Rattle.row_judges.specs.RowJudgment.{JudgesRow}

@@ -11,9 +11,9 @@ use Rattle.line_filter.specs.declared.run_stop.RunStop.{RunStop}
 use Rattle.line_filter.specs.declared.tally.Tally.{Tally}
 use Rattle.serde_json.specs.Data.{Data}
 use Rattle.odata_checked_filter.specs.Filter.{Filter}
-use Rattle.odata_filter.specs.Collection.{IsNoCollection, OfCollection, StopsCollection, entities_of}
+use Rattle.filter_runs.specs.Collection.{IsNoCollection, OfCollection, StopsCollection, entities_of}
 use Rattle.row_judges.specs.RowJudgment.{rows_of}
-use Rattle.odata_filter.specs.RunStops.{run_stop, StopsBy}
+use Rattle.filter_runs.specs.RunStops.{run_stop, StopsBy}
 use Rattle.odata_filter.specs.Run.{BeginsAs, BeginsKept, ByFilter, FiltersAll, HoldsOfRows, IsReady, OfRows, OverRows, Status, StopsAtFault, Streams, streams, without_device, without_memory}
 use Rattle.odata_filter.specs.private.RunFailures.{AnswerSays, FailureSays, IsUnwritten, IsReadWhole, StopsOver, status_of, status_of_rows}
 use Rattle.row_judges.specs.declared.bad_row.BadRow.{BadRow}
@@ -21,8 +21,8 @@ use Rattle.command_plan.specs.declared.command_line.Plan.{Plan}
 use Rattle.command_plan.specs.declared.command_line.Verb.{Verb}
 use Rattle.odata_filter.specs.declared.command.failure.Failure.{Failure}
 use Rattle.odata_filter.specs.declared.command.failure.Failure.TheVariants.{NotAMoment, OneOf, Schema, UnknownType, Query, NoOption, Refused, NoMoment, RowsFile, Rows}
-use Rattle.odata_filter.specs.declared.run_fault.RunFault.{RunFault}
-use Rattle.odata_filter.specs.declared.run_fault.RunFault.TheVariants.{Json, Row, Arithmetic, LineTooLong, NotACollection, Read, Write, Memory}
+use Rattle.filter_runs.specs.declared.run_fault.RunFault.{RunFault}
+use Rattle.filter_runs.specs.declared.run_fault.RunFault.TheVariants.{Json, Row, Arithmetic, LineTooLong, NotACollection, Read, Write, Memory}
 
 -- ---- a beginning was written
 

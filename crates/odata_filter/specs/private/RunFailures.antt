@@ -12,7 +12,7 @@ use Rattle.odata_filter.specs.Run.{IsFirstMoment, IsRefusedLine, HasNoFilter, Ha
 use Rattle.command_plan.specs.declared.command_line.Plan.{Plan}
 use Rattle.odata_filter.specs.declared.command.failure.Failure.{Failure}
 use Rattle.odata_filter.specs.declared.command.failure.Failure.TheVariants.{RowsFile, Rows}
-use Rattle.odata_filter.specs.declared.run_fault.RunFault.{RunFault}
+use Rattle.filter_runs.specs.declared.run_fault.RunFault.{RunFault}
 pub use Rattle.odata_filter.specs.FailureStatus.{status_of, status_of_query, status_of_refusal, status_of_rows, status_of_schema}
 
 -- what a failure over the rows says of them and of what was written, by what a fault says of their bytes and of a text

@@ -2,8 +2,8 @@ ghost use Rattle.std.specs.Prelude.{◌≡◌, ◌<◌, [], if◌then◌else◌}
 ghost use Rattle.odata_filter.specs.FailureStatus.{status_of};
 ghost use Rattle.odata_filter.specs.Run.{status_number};
 
-use crate::run_fault::RunFault;
 use csdl_schema::SchemaFault;
+use filter_runs::RunFault;
 use odata_queries::QueryFault;
 use odata_typing::Refusal;
 use thiserror::Error;

@@ -13,10 +13,10 @@ ghost use Rattle.csdl_schema.specs.SchemaModel.{HoldsType, IsEntityAt, index_nam
 use super::failure::Failure;
 use super::output_line::write_line;
 use super::rows::{Asked, filter_rows};
-use crate::run_fault::RunFault;
 use command_plan::command_line::{Plan, Verb};
 use csdl_schema::{Schema, TypeId};
 use edm_values::{Moment, read_moment};
+use filter_runs::RunFault;
 use line_filter::{Unlogged, write_out};
 use odata_queries::filter_of_query;
 use odata_typing::{Checked, Refusal, check};

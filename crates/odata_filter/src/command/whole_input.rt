@@ -1,7 +1,7 @@
 //! All that a reader has, in memory.
 ghost use Rattle.std.specs.Prelude.{◌≡◌, IfOk, IfSome, MatchResult};
 ghost use Rattle.line_filter.specs.CallLogs.{StaysWell};
-ghost use Rattle.odata_filter.specs.DeviceFaults.{ReadsUntilError};
+ghost use Rattle.odata_filter.specs.ReadErrors.{ReadsUntilError};
 
 use line_filter::{Reads, Unlogged};
 use std::alloc::Global;

@@ -10,6 +10,7 @@ use Rattle.csdl_schema.specs.JsonText.{IsJsonOf, IsNoJson}
 use Rattle.csdl_schema.specs.SchemaModel.{Slots, type_name_at}
 use Rattle.edm_entities.specs.Fits.{Fits}
 use Rattle.edm_entities.specs.RowFaults.{Path, IsFirstFault, IsRowFault}
+use Rattle.fault_numbers.specs.FaultNumbers.{flaw_reported}
 use Rattle.edm_entities.specs.FitsPrimitive.{Flaw, missing, wrong_kind, null_not_allowed, out_of_range, bad_text, not_expanded}
 use Rattle.edm_entities.specs.declared.row_fault.RowFault.{RowFault}
 use Rattle.odata_filter_operations.specs.Outcome.{Outcome, gives}
@@ -22,7 +23,7 @@ use Rattle.line_filter.specs.declared.judge.Judgment.{Judgment}
 use Rattle.row_judges.specs.declared.bad_row.BadRow.{BadRow}
 use Rattle.row_judges.specs.RowAnswer.{AreSameAnswer, ReportsRow, is_memory}
 use Rattle.row_judges.specs.RowJudgment.{FilterMeans, HasOutcome, JudgesValue, JudgesJson, JudgesRow}
-use Rattle.row_judges.specs.RowsOnce.{flaw_reported, AreSameJudgment}
+use Rattle.row_judges.specs.RowsOnce.{AreSameJudgment}
 use Rattle.row_judges.proofs.RowLemmas.RowJudges.{row_judged}
 
 -- the laws of what fits, as they are cited

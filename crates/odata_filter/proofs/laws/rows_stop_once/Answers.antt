@@ -3,11 +3,11 @@ use Rattle.edm_values.specs.MomentParts.{MomentParts}
 use Rattle.odata_checked_filter.specs.Filter.{Filter}
 use Rattle.line_filter.specs.Kept.{Filters}
 use Rattle.line_filter.specs.declared.tally.Tally.{Tally}
-use Rattle.odata_filter.specs.declared.run_fault.RunFault.{RunFault}
+use Rattle.filter_runs.specs.declared.run_fault.RunFault.{RunFault}
 use Rattle.row_judges.specs.RowJudgment.{JudgesRow, rows_of}
 use Rattle.odata_filter.specs.StopsOnce.{AreSameFault, IsOfRow}
-use Rattle.odata_filter.specs.RunStops.{StopsBy}
-use Rattle.odata_filter.proofs.RowLemmas.RowLineJudges.{of_filter}
+use Rattle.filter_runs.specs.RunStops.{StopsBy}
+use Rattle.filter_runs.proofs.RowLemmas.RowLineJudges.{of_filter}
 use Rattle.odata_filter.proofs.RowLemmas.OneFault.{same_kind, faults_once, faults_never}
 use Rattle.odata_filter.proofs.laws.rows_stop_once.Goals as goal
 

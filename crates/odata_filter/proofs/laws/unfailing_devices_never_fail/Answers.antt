@@ -1,4 +1,4 @@
-use Rattle.odata_filter.proofs.RowLemmas.DeviceCalls.{unfailing_read, unfailing_write}
+use Rattle.filter_runs.proofs.RowLemmas.DeviceCalls.{unfailing_read, unfailing_write}
 use Rattle.odata_filter.proofs.laws.unfailing_devices_never_fail.Goals as goal
 
 pub returns-clause-write : goal.returns-clause-write

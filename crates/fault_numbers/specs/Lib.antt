@@ -1,0 +1,2 @@
+pub use Rattle.edm_entities.specs.FitsPrimitive
+pub mod FaultNumbers

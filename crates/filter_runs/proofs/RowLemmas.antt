@@ -1,0 +1,9 @@
+pub mod Collections
+pub mod DeviceCalls
+pub mod KnownItems
+pub mod KnownCollections
+pub mod LineFeeds
+pub mod LinesOpen
+pub mod RowLineJudges
+pub mod PassedFaults
+pub mod Renamed
