@@ -1,5 +1,5 @@
 //! What to say of a name of no entity type.
-use filter_hints::NearNames;
+use near_names::NearNames;
 use serde_json::Value;
 use std::alloc::{AllocError, Global};
 use type_listing::type_names;

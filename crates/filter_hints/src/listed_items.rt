@@ -11,7 +11,7 @@ use odata_syntax::SyntaxNode;
 use odata_text::Span;
 use std::alloc::{AllocError, Global};
 
-/// At most so many items are looked at, so that a long list makes no sentence dear.
+/// At most so many items are looked at, to keep sentences cheap.
 const LOOKED_AT: usize = 16;
 
 /// The index of the operand before a list that has items.

@@ -5,6 +5,7 @@ use crate::filter_of::FilterOf;
 use crate::hint::Hint;
 use crate::standard_names::{is_function, is_infix_operator};
 use crate::trial::mends;
+use crate::typed_literal::typed_literal;
 use crate::unread_property::unread_in_words;
 use crate::words_around::{first_operand_end, last_word, open_parenthesis};
 use csdl_schema::PropertyKind;
@@ -159,6 +160,8 @@ fn unexpected(
         without_variable(alloc, filter, around)
     } else if is_function(around.token) {
         infix_function(alloc, filter, around)
+    } else if around.token.starts_with('\'') {
+        typed_literal(alloc, filter, around.before)
     } else {
         Ok(plain_hint(alloc, plain_advice(alloc, around)?))
     }

@@ -3,7 +3,6 @@ use crate::advised_sentence::Advice;
 use crate::edit::part;
 use crate::filter_of::FilterOf;
 use crate::hint::Hint;
-use crate::near_names::NearNames;
 use crate::operand_type::operand_type;
 use crate::operand_types::operand_advice;
 use crate::standard_names::{FUNCTIONS, is_unsupported_function};
@@ -11,6 +10,7 @@ use crate::syntax_tree::node_with;
 use crate::unknown_enumeration::enumeration_advice;
 use crate::unknown_property::{near_in_words, property_advice};
 use crate::unread_property::unread_advice;
+use near_names::NearNames;
 use odata_syntax::{SyntaxNode, parse_text};
 use std::alloc::{AllocError, Global};
 
@@ -40,6 +40,9 @@ fn function_advice(
     let mut near = NearNames::new(name);
     for function in FUNCTIONS {
         near.offer(function);
+    }
+    for function in FUNCTIONS {
+        near.offer_longer(function);
     }
     Ok(after(near_in_words(alloc, &near, call.text)?))
 }

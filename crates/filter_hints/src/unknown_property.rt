@@ -4,12 +4,13 @@ use crate::called_function::called_function;
 use crate::edit::{Edit, part};
 use crate::filter_of::FilterOf;
 use crate::hint::Hint;
-use crate::near_names::NearNames;
 use crate::operand_type::{OperandType, operand_type};
 use crate::standard_names::is_unsupported_function;
 use crate::syntax_tree::{lambda_parts, last_child, next_around, node_with};
 use crate::trial::mends;
+use crate::words_around::first_operand_end;
 use csdl_schema::{Schema, TypeId};
+use near_names::NearNames;
 use odata_syntax::{SyntaxKind, SyntaxNode};
 use odata_text::Span;
 use std::alloc::{AllocError, Global};
@@ -158,6 +159,15 @@ fn first_name(
     Ok(Some(Hint::with_edit(alloc, words, quoted)?))
 }
 
+/// Whether what follows a collection is a name for how many members it has.
+fn asks_for_size(rest: &str) -> bool {
+    let end = first_operand_end(rest);
+    matches!(
+        rest.get(..end),
+        Some("/count" | "/Count" | "/length" | "/size")
+    )
+}
+
 /// A step over a collection: a lambda expression in place of the path, if that mends the filter.
 pub fn over_members(
     alloc: Global,
@@ -185,9 +195,13 @@ pub fn over_members(
             Ok(Some(Hint::with_edit(alloc, words, lambda)?))
         }
         None => {
-            let words = format!(in alloc;
-                "'{collection}' is a collection: any and all look into it."
-            )?;
+            let words = if asks_for_size(part(text, rest)) {
+                format!(in alloc;
+                    "'{collection}' is a collection: {collection}/$count says how many members it has."
+                )?
+            } else {
+                format!(in alloc; "'{collection}' is a collection: any and all look into it.")?
+            };
             Ok(Some(Hint::plain(alloc, words)))
         }
     }
