@@ -193,7 +193,7 @@ def checks():
             names[5] = "Disguised"
         wanted = {number: name for number, name in names.items() if name}
         yield f"{HEADER}: the faults of {kind} are not those of fault_numbers", has == wanted
-    for name, path in (("answer", "handle_calls/src/answer"), ("bytes", "odfilter_c/src/c_types"),
+    for name, path in (("answer", "call_handles/src/answer"), ("bytes", "odfilter_c/src/c_types"),
                        ("buffer", "odfilter_c/src/c_types")):
         struct = next(it for it in found["structs"] if it["name"] == f"odfilter_{name}")
         has = [(it["name"], it["type"]) for it in struct["fields"]]

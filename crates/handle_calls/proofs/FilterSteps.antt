@@ -2,9 +2,9 @@
 use Rattle.std.proofs.Common.{◌≡◌, ℕ, List, Result, Ok, Err, MatchResult, Some, sym, subst}
 use Rattle.odata_queries.specs.Query.{IsFilterOf}
 use Rattle.handle_calls.specs.FilterCalls.{IsFilterIn, IsFilterMade, IsFilterOfQuery, IsNoFilter, IsNoQueryFilter, IsNotMade}
-use Rattle.handle_calls.specs.declared.call_fault.Fault.{Fault}
-use Rattle.handle_calls.specs.declared.handle.Handle.{Handle}
-use Rattle.handle_calls.specs.HeldType.{EntityType}
+use Rattle.call_handles.specs.declared.call_fault.Fault.{Fault}
+use Rattle.call_handles.specs.declared.handle.Handle.{Handle}
+use Rattle.call_handles.specs.HeldType.{EntityType}
 
 -- why a text is not a filter of a type is why it is none of the type's handle
 no_filter : (held : EntityType) (text : List ℕ) (fault : Fault) → IsNotMade held text fault → IsNoFilter (Handle.Type held) text fault

@@ -1,5 +1,2 @@
-mod Steps
-mod Types
 mod FilterSteps
-mod OwnedSteps
 mod RowSteps

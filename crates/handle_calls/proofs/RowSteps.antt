@@ -14,9 +14,10 @@ use Rattle.row_judges.specs.RowCosts.{ReportsRowWithin, rows_within}
 use Rattle.row_judges.specs.RowJudgment.{JudgesRow}
 use Rattle.row_judges.specs.declared.bad_row.BadRow.{BadRow}
 use Rattle.row_judges.specs.declared.bounded_line_judge.BoundedFault.{BoundedFault}
-use Rattle.handle_calls.specs.RowCalls.{IsMomentFor, IsOutcomeAt, IsOutcomeOn, IsRunAt, IsRunOver, stop_within}
+use Rattle.handle_calls.specs.RowCalls.{IsOutcomeAt, IsOutcomeOn, IsRunAt, IsRunOver, stop_within}
+use Rattle.call_handles.specs.Moments.{IsMomentFor}
 use Rattle.handle_calls.specs.private.JudgeCalls.{fault_at_no_line, row_fault}
-use Rattle.handle_calls.specs.declared.call_fault.Fault.{Fault}
+use Rattle.call_handles.specs.declared.call_fault.Fault.{Fault}
 
 -- what is said at the moment that was taken, of the filter as it was put together
 pub at_moment : (P : Filter → MomentParts → Type 0) (checked filter : Filter) (given : Option MomentParts) (now : MomentParts)

@@ -5,13 +5,13 @@ use Rattle.odata_checked_filter.specs.Filter.{Filter, tree_of_filter}
 use Rattle.odata_checked_filter.specs.LambdaDepth.{lambda_depth}
 use Rattle.odata_checked_filter.specs.PropertyPaths.{property_paths}
 use Rattle.odata_signatures.specs.PreOrder.{pre_order}
-use Rattle.handle_calls.specs.Answers.{empty_answer}
+use Rattle.call_handles.specs.Answers.{empty_answer}
 use Rattle.handle_calls.specs.FilterCalls.{IsNoText}
-use Rattle.handle_calls.specs.Outcomes.{IsReported}
-use Rattle.handle_calls.specs.Texts.{IsTooSmall, IsWritten}
-use Rattle.handle_calls.specs.declared.answer.Answer.{Answer}
-use Rattle.handle_calls.specs.declared.call_fault.Fault.{Fault}
-use Rattle.handle_calls.specs.declared.handle.Handle.{Handle}
+use Rattle.call_handles.specs.Outcomes.{IsReported}
+use Rattle.call_handles.specs.Texts.{IsTooSmall, IsWritten}
+use Rattle.call_handles.specs.declared.answer.Answer.{Answer}
+use Rattle.call_handles.specs.declared.call_fault.Fault.{Fault}
+use Rattle.call_handles.specs.declared.handle.Handle.{Handle}
 
 -- a number is reported, and nothing else
 abbrev pub ReportsNumber : ℕ → Answer → ℕ → Type 0

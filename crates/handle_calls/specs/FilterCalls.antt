@@ -8,10 +8,10 @@ use Rattle.odata_signatures.specs.declared.refusal.Refusal.{Refusal}
 use Rattle.odata_checked_filter.specs.Explanation.{IsExplanation}
 use Rattle.odata_checked_filter.specs.Filter.{tree_of_filter}
 use Rattle.odata_syntax.specs.CanonicalText.{IsCanonicalText}
-use Rattle.handle_calls.specs.Kinds.{IsFilterKind, IsType}
-use Rattle.handle_calls.specs.declared.call_fault.Fault.{Fault}
-use Rattle.handle_calls.specs.HeldType.{EntityType}
-use Rattle.handle_calls.specs.declared.handle.Handle.{Handle}
+use Rattle.call_handles.specs.Kinds.{IsFilterKind, IsType}
+use Rattle.call_handles.specs.declared.call_fault.Fault.{Fault}
+use Rattle.call_handles.specs.HeldType.{EntityType}
+use Rattle.call_handles.specs.declared.handle.Handle.{Handle}
 
 -- the text is a filter of the type, and this is it, with the type's schema
 abbrev pub IsFilterMade : EntityType → List ℕ → Handle → Type 0

@@ -1,15 +1,15 @@
 -- What each call reports of what it borrows.
 use Rattle.std.specs.Prelude.{◌≡◌, ◌++◌, ◌⊎◌, ℕ, List, length, Option, None, Some, Result, Ok, Err, MatchResult}
 use Rattle.csdl_declarations.specs.declared.schema_fault.SchemaFault.{SchemaFault}
-use Rattle.handle_calls.specs.Answers.{fault_answer, fault_status}
+use Rattle.call_handles.specs.Answers.{fault_answer, fault_status}
 use Rattle.handle_calls.specs.FilterCalls.{IsCanonicalOf, IsExplanationOf, IsFilterIn, IsFilterOfQuery, IsNoFilter, IsNoQueryFilter, IsNoText}
-use Rattle.handle_calls.specs.Outcomes.{Gives, Makes}
+use Rattle.call_handles.specs.Outcomes.{Gives, Makes}
 use Rattle.handle_calls.specs.SchemaCalls.{IsNoSchema, IsNoType, IsSchemaOf, IsTypeOf, first_name, second_name}
-use Rattle.handle_calls.specs.Texts.{IsTooSmall, IsWritten, Reports}
-use Rattle.handle_calls.specs.declared.answer.Answer.{Answer}
-use Rattle.handle_calls.specs.declared.call_fault.Fault.{Fault}
-use Rattle.handle_calls.specs.declared.handle.Handle.{Handle}
-use Rattle.handle_calls.specs.declared.owned.Owned.{Owned}
+use Rattle.call_handles.specs.Texts.{IsTooSmall, IsWritten, Reports}
+use Rattle.call_handles.specs.declared.answer.Answer.{Answer}
+use Rattle.call_handles.specs.declared.call_fault.Fault.{Fault}
+use Rattle.call_handles.specs.declared.handle.Handle.{Handle}
+use Rattle.call_handles.specs.declared.owned.Owned.{Owned}
 
 -- the names that a schema's fault carries, one after the other, and how long both and the first are
 pub record ReportsNames (fault : SchemaFault) (old new : List ℕ) (answer : Answer) : Type 0 where

@@ -16,11 +16,12 @@ use Rattle.row_judges.specs.RowCosts.{RowCostIs, rows_within}
 use Rattle.row_judges.specs.RowJudgment.{JudgesRow, rows_of}
 use Rattle.row_judges.specs.declared.bad_row.BadRow.{BadRow}
 use Rattle.row_judges.specs.declared.bounded_line_judge.BoundedFault.{BoundedFault}
-use Rattle.handle_calls.specs.Answers.{path_bytes}
-use Rattle.handle_calls.specs.Kinds.{IsFilterKind}
-use Rattle.handle_calls.specs.declared.call_fault.Fault.{Fault}
-use Rattle.handle_calls.specs.declared.handle.Handle.{Handle}
-use Rattle.handle_calls.specs.declared.handle.JudgeHandle.{JudgeHandle}
+use Rattle.call_handles.specs.Answers.{path_bytes}
+use Rattle.call_handles.specs.Kinds.{IsFilterKind}
+use Rattle.call_handles.specs.Moments.{IsMomentFor}
+use Rattle.call_handles.specs.declared.call_fault.Fault.{Fault}
+use Rattle.call_handles.specs.declared.handle.Handle.{Handle}
+use Rattle.call_handles.specs.declared.handle.JudgeHandle.{JudgeHandle}
 
 -- a judge of that filter, or of none, that has no moment and no bound, and was in no fault
 abbrev pub IsNewJudge : Option (Box Filter Global) → Handle → Type 0
@@ -49,11 +50,6 @@ IsMomentOf text (Ok now) = MomentValue text now
 IsMomentOf text (Err Fault.NotUtf8) = ¬ IsUtf8 text
 IsMomentOf text (Err Fault.NotAMoment) = (now : MomentParts) → ¬ MomentValue text now
 IsMomentOf text (Err fault) = ⊥
-
--- the filter is judged at the judge's moment, or at any where there is none and the filter does not ask for it
-abbrev pub IsMomentFor : Filter → Option MomentParts → MomentParts → Type 0
-IsMomentFor filter (Some given) now = now ≡ given
-IsMomentFor filter None now = ¬ UsesNow (tree_of_filter filter)
 
 -- the filter asks for a moment, and there is none
 abbrev pub LacksMoment : Filter → Option MomentParts → Type 0

@@ -7,16 +7,16 @@ use Rattle.line_filter.specs.declared.tally.Tally.{Tally}
 use Rattle.odata_checked_filter.specs.Calls.{UsesNow}
 use Rattle.odata_checked_filter.specs.Filter.{Filter, tree_of_filter}
 use Rattle.odata_eval.specs.declared.verdict.Verdict.{Verdict}
-use Rattle.handle_calls.specs.Answers.{empty_answer, fault_answer, fault_status}
-use Rattle.handle_calls.specs.Outcomes.{IsReported, Makes}
+use Rattle.call_handles.specs.Answers.{empty_answer, fault_answer, fault_status}
+use Rattle.call_handles.specs.Outcomes.{IsReported, Makes}
 use Rattle.handle_calls.specs.RowCalls.{IsJudgeOf, IsMomentOf, IsNewJudge, IsNoJudgeOf, IsNoMemory, IsOutcomeOn, IsRunOver}
 use Rattle.handle_calls.specs.RowCalls.{Keeps, last_after, path_kept}
-use Rattle.handle_calls.specs.Texts.{IsTooSmall, IsWritten, Writes}
-use Rattle.handle_calls.specs.declared.answer.Answer.{Answer}
-use Rattle.handle_calls.specs.declared.call_fault.Fault.{Fault}
-use Rattle.handle_calls.specs.declared.handle.Handle.{Handle}
-use Rattle.handle_calls.specs.declared.handle.JudgeHandle.{JudgeHandle}
-use Rattle.handle_calls.specs.declared.owned.Owned.{Owned}
+use Rattle.call_handles.specs.Texts.{IsTooSmall, IsWritten, Writes}
+use Rattle.call_handles.specs.declared.answer.Answer.{Answer}
+use Rattle.call_handles.specs.declared.call_fault.Fault.{Fault}
+use Rattle.call_handles.specs.declared.handle.Handle.{Handle}
+use Rattle.call_handles.specs.declared.handle.JudgeHandle.{JudgeHandle}
+use Rattle.call_handles.specs.declared.owned.Owned.{Owned}
 
 -- whether the filter asks for a moment
 abbrev pub ReportsNeedOf : Filter → Answer → ℕ → Type 0

@@ -3,9 +3,9 @@ use Rattle.std.specs.Prelude.{◌≡◌, ◌≢◌, ℕ, IsUtf8, List, [], Some,
 use Rattle.csdl_declarations.specs.declared.schema_fault.SchemaFault.{SchemaFault}
 use Rattle.csdl_schema.specs.Document.{IsSchemaFault, StandsFor}
 use Rattle.csdl_schema.specs.SchemaModel.{IsEntityAt, index_named}
-use Rattle.handle_calls.specs.Kinds.{IsSchema}
-use Rattle.handle_calls.specs.declared.call_fault.Fault.{Fault}
-use Rattle.handle_calls.specs.declared.handle.Handle.{Handle}
+use Rattle.call_handles.specs.Kinds.{IsSchema}
+use Rattle.call_handles.specs.declared.call_fault.Fault.{Fault}
+use Rattle.call_handles.specs.declared.handle.Handle.{Handle}
 
 -- the schema that the document stands for
 abbrev pub IsSchemaOf : List ℕ → Handle → Type 0

@@ -1,11 +1,11 @@
 -- Another owner of what a handle stands for.
 use Rattle.std.specs.Prelude.{◌≡◌, ℕ}
-use Rattle.handle_calls.specs.Kinds.{HasOneOwner}
-use Rattle.handle_calls.specs.Outcomes.{Makes}
-use Rattle.handle_calls.specs.declared.answer.Answer.{Answer}
-use Rattle.handle_calls.specs.declared.call_fault.Fault.{Fault}
-use Rattle.handle_calls.specs.declared.handle.Handle.{Handle}
-use Rattle.handle_calls.specs.declared.owned.Owned.{Owned}
+use Rattle.call_handles.specs.Kinds.{HasOneOwner}
+use Rattle.call_handles.specs.Outcomes.{Makes}
+use Rattle.call_handles.specs.declared.answer.Answer.{Answer}
+use Rattle.call_handles.specs.declared.call_fault.Fault.{Fault}
+use Rattle.call_handles.specs.declared.handle.Handle.{Handle}
+use Rattle.call_handles.specs.declared.owned.Owned.{Owned}
 
 -- a handle of the same schema, type or filter
 abbrev pub IsSame : Handle → Handle → Type 0

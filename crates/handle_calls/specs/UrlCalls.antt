@@ -3,13 +3,13 @@ use Rattle.std.specs.Prelude.{◌≡◌, ◌≢◌, ◌⊎◌, ℕ, List, length
 use Rattle.odata_queries.specs.Find.{FoundModel, IsFindFault, IsFoundIn}
 use Rattle.odata_queries.specs.declared.find_fault.FindFault.{FindFault}
 use Rattle.handle_calls.specs.FilterCalls.{IsFilterIn, IsNoFilter}
-use Rattle.handle_calls.specs.Kinds.{IsType}
-use Rattle.handle_calls.specs.Outcomes.{IsReported, Makes}
-use Rattle.handle_calls.specs.Texts.{IsTooSmall, IsWritten}
-use Rattle.handle_calls.specs.declared.answer.Answer.{Answer}
-use Rattle.handle_calls.specs.declared.call_fault.Fault.{Fault}
-use Rattle.handle_calls.specs.declared.handle.Handle.{Handle}
-use Rattle.handle_calls.specs.declared.owned.Owned.{Owned}
+use Rattle.call_handles.specs.Kinds.{IsType}
+use Rattle.call_handles.specs.Outcomes.{IsReported, Makes}
+use Rattle.call_handles.specs.Texts.{IsTooSmall, IsWritten}
+use Rattle.call_handles.specs.declared.answer.Answer.{Answer}
+use Rattle.call_handles.specs.declared.call_fault.Fault.{Fault}
+use Rattle.call_handles.specs.declared.handle.Handle.{Handle}
+use Rattle.call_handles.specs.declared.owned.Owned.{Owned}
 
 -- the query has this filter, and the handle is a type that it can be checked for
 abbrev pub IsFoundFor : Handle → List ℕ → FoundModel → Type 0

@@ -1,4 +1,2 @@
 -- Definitions that private clauses alone cite.
-pub mod Handle
-pub mod HeldType
 pub mod JudgeCalls

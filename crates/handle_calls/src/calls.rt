@@ -8,19 +8,14 @@ ghost use Rattle.handle_calls.specs.Costs.{ReportsLambdaDepth, ReportsNodeCount,
 ghost use Rattle.handle_calls.specs.RowReports.{FiltersLines, JudgesNext, JudgesOne, MakesJudge, MakesJudgeOf};
 ghost use Rattle.handle_calls.specs.RowReports.{SetsBound, SetsMoment, ReportsNeed, ReportsPath};
 
-use crate::answer::Answer;
-use crate::call_answers::{give, report_fault};
-use crate::call_fault::Fault;
-use crate::caller_buffer::report_bytes;
 use crate::cost_calls::{counted, path_lines, report_lines};
 use crate::filter_calls::{canonical_of, explanation_of, filter_for, filter_in_query, filter_of};
-use crate::handle::Handle;
 use crate::judge_calls::{judge_of, judge_with, last_path, put_moment, report_next, report_row};
 use crate::line_calls::report_rows;
-use crate::owned::Owned;
 use crate::schema_calls::{report_names, schema_of, type_of};
 use crate::share_calls::share_of;
 use crate::url_calls::{found_for, report_found};
+use call_handles::{Answer, Fault, Handle, Owned, give, report_bytes, report_fault};
 use std::alloc::Global;
 
 /// What becomes of a document that is not a schema.

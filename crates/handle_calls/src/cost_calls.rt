@@ -1,14 +1,10 @@
 //! What a filter costs, and what it reads.
 ghost use Rattle.std.specs.Prelude.{◌≡◌, IfOk, MatchResult, map, string_bytes};
-ghost use Rattle.handle_calls.specs.Answers.{empty_answer};
+ghost use Rattle.call_handles.specs.Answers.{empty_answer};
 ghost use Rattle.handle_calls.specs.Costs.{ArePaths, ArePathsOf, ReportsLines, lines_of};
 ghost use Rattle.handle_calls.specs.FilterCalls.{IsNoText};
 
-use crate::answer::Answer;
-use crate::call_answers::report_fault;
-use crate::call_fault::Fault;
-use crate::caller_buffer::write_text;
-use crate::handle::{FilterHandle, Handle};
+use call_handles::{Answer, Fault, FilterHandle, Handle, report_fault, write_text};
 use std::alloc::{AllocError, Global};
 
 /// An answer of a number.

@@ -6,12 +6,11 @@ ghost use Rattle.handle_calls.specs.FilterCalls.{IsFilterMade, IsFilterOfQuery};
 ghost use Rattle.row_judges.specs.RowAnswer.{IsLayoutOfFilter};
 ghost use Rattle.handle_calls.specs.FilterCalls.{IsNoFilter, IsNoQueryFilter, IsNoText, IsNotMade};
 
-use crate::call_fault::Fault;
-use crate::handle::{FilterHandle, Handle, TypeHandle};
+use call_handles::{Fault, FilterHandle, Handle, TypeHandle};
 use edm_rows::{HeldSchema, RowLayout};
-use odata_filter::row_layout_of;
 use odata_queries::{QueryFault, filter_of_query};
 use odata_typing::{Checked, StoredFilter, check_to_store};
+use row_judges::row_layout_of;
 use std::alloc::Global;
 use std::sync::Arc;
 

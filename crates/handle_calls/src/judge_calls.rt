@@ -1,29 +1,26 @@
 //! Judges, and what a filter says of a row.
-ghost use Rattle.std.specs.Prelude.{◌≡◌, ℕ, List, IfOk, IfErr, MatchResult, None, Some};
+ghost use Rattle.std.specs.Prelude.{◌≡◌, ℕ, List, IfOk, MatchResult, None, Some};
 ghost use Rattle.edm_values.specs.MomentParts.{MomentParts};
-ghost use Rattle.odata_checked_filter.specs.Calls.{UsesNow};
-ghost use Rattle.odata_checked_filter.specs.Filter.{Filter, tree_of_filter};
+ghost use Rattle.odata_checked_filter.specs.Filter.{Filter};
 ghost use Rattle.row_judges.specs.FilterRows.{AreRowsOfFilter};
 ghost use Rattle.row_judges.specs.RowAnswer.{ReportsRow};
 ghost use Rattle.row_judges.specs.RowCosts.{ReportsRowWithin};
-ghost use Rattle.handle_calls.specs.Answers.{empty_answer};
-ghost use Rattle.handle_calls.specs.Outcomes.{IsReported};
-ghost use Rattle.handle_calls.specs.RowCalls.{IsJudgeOf, IsMomentFor, IsMomentOf, IsNewJudge, IsNoJudgeOf, IsNoMemory};
+ghost use Rattle.call_handles.specs.Answers.{empty_answer};
+ghost use Rattle.call_handles.specs.Outcomes.{IsReported};
+ghost use Rattle.handle_calls.specs.RowCalls.{IsJudgeOf, IsMomentOf, IsNewJudge, IsNoJudgeOf, IsNoMemory};
 ghost use Rattle.handle_calls.specs.RowCalls.{IsOutcomeAt, IsOutcomeOn, Keeps, last_after, path_kept};
 ghost use Rattle.handle_calls.specs.private.JudgeCalls.{row_fault};
 ghost use Rattle.handle_calls.specs.RowReports.{JudgesNext, JudgesOne, JudgesOneBy, JudgesOwn, SetsMoment};
 ghost use Rattle.handle_calls.specs.RowReports.{SetsMomentOf, ReportsVerdict, verdict_number};
 
-use crate::answer::Answer;
-use crate::call_answers::report_fault;
-use crate::call_fault::{Fault, path_of};
-use crate::handle::{FilterHandle, Handle, JudgeHandle, OwnFilter};
+use call_handles::{
+    Answer, Fault, FilterHandle, Handle, JudgeHandle, OwnFilter, moment_for, path_of, report_fault,
+};
 use edm_rows::LayoutReader;
 use edm_values::{Moment, read_moment};
-use jiff::civil;
 use odata_eval::Verdict;
-use odata_filter::{BadRow, BoundedJudge, FilterRows, judge_row};
 use odata_typing::Checked;
+use row_judges::{BadRow, BoundedJudge, FilterRows, judge_row};
 use std::alloc::{AllocError, Global};
 use std::sync::Arc;
 
@@ -107,23 +104,6 @@ pub fn put_moment(handle: &mut Handle, text: &[u8]) -> u32
     match handle {
         Handle::Judge(judge) => take_moment(judge, text),
         _ => Fault::OtherKind.status(),
-    }
-}
-
-/// Returns the moment that is given, or the first of year 1 where the filter asks for none.
-pub fn moment_for(checked: &Checked<'_>, given: Option<Moment>) -> Result<Moment, Fault>
-    ensures moment { IfOk result (IsMomentFor checked.now given) }
-    ensures needed { IfErr result (λ fault. fault ≡ Fault.MomentNeeded) }
-    ensures asks { IfErr result (λ _. UsesNow (tree_of_filter checked.now)) }
-    ensures none { IfErr result (λ _. given ≡ None) }
-{
-    match given {
-        Some(moment) => Ok(moment),
-        None => if checked.uses_now() {
-            Err(Fault::MomentNeeded)
-        } else {
-            Moment::new(civil::date(1, 1, 1).at(0, 0, 0, 0), 0).ok_or(Fault::MomentNeeded)
-        },
     }
 }
 

@@ -3,17 +3,16 @@ ghost use Rattle.std.specs.Prelude.{◌≡◌, None, Some};
 ghost use Rattle.handle_calls.specs.RowCalls.{IsRunAt, IsRunOver, stop_within};
 ghost use Rattle.handle_calls.specs.RowReports.{FiltersBy, FiltersLines, ReportsStop, ReportsTally};
 
-use crate::answer::Answer;
-use crate::call_answers::report_fault;
-use crate::call_fault::{Fault, measured};
-use crate::caller_buffer::write_text;
-use crate::handle::{FilterHandle, Handle, JudgeHandle};
-use crate::judge_calls::{keep_fault, moment_for};
+use crate::judge_calls::keep_fault;
+use call_handles::{
+    Answer, Fault, FilterHandle, Handle, JudgeHandle, measured, moment_for, report_fault,
+    write_text,
+};
 use edm_values::Moment;
-use line_filter::RunStop;
-use odata_filter::{BadRow, BoundedJudge, RunFault, Tally, filter_slice};
+use filter_runs::{RunFault, filter_slice};
+use line_filter::{RunStop, Tally};
 use odata_typing::Checked;
-use row_judges::BoundedFault;
+use row_judges::{BadRow, BoundedFault, BoundedJudge};
 use std::alloc::Global;
 
 /// The result of a run over rows, and the lines that it kept.

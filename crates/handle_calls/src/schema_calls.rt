@@ -4,14 +4,11 @@ ghost use Rattle.csdl_schema.specs.SchemaModel.{HoldsType, IsEntityAt};
 ghost use Rattle.handle_calls.specs.SchemaCalls.{IsNoSchema, IsNoType, IsSchemaOf, IsTypeOf, first_name, second_name};
 ghost use Rattle.handle_calls.specs.Reports.{ReportsNames};
 
-use crate::answer::Answer;
-use crate::call_fault::Fault;
-use crate::caller_buffer::write_both;
-use crate::handle::{Handle, SchemaHandle, TypeHandle};
+use call_handles::{Answer, Fault, Handle, SchemaHandle, TypeHandle, write_both};
 use csdl_schema::{Expansion, Schema, SchemaFault, TypeId};
 use edm_row_plans::RowPlan;
 use edm_rows::{HeldSchema, RowLayout};
-use odata_filter::Numbered;
+use fault_numbers::Numbered;
 use std::alloc::Global;
 use std::sync::Arc;
 

@@ -2,8 +2,7 @@
 ghost use Rattle.std.specs.Prelude.{IfOk, MatchResult};
 ghost use Rattle.handle_calls.specs.Shares.{IsNotShared, IsSame};
 
-use crate::call_fault::Fault;
-use crate::handle::{FilterHandle, Handle, SchemaHandle, TypeHandle};
+use call_handles::{Fault, FilterHandle, Handle, SchemaHandle, TypeHandle};
 use std::alloc::AllocError;
 use std::sync::Arc;
 

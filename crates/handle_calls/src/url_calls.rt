@@ -3,10 +3,7 @@ ghost use Rattle.std.specs.Prelude.{◌≡◌, MatchResult};
 ghost use Rattle.odata_queries.specs.Find.{found_model};
 ghost use Rattle.handle_calls.specs.UrlCalls.{IsFoundFor, IsNotFound, ReportsFound};
 
-use crate::answer::Answer;
-use crate::call_fault::Fault;
-use crate::caller_buffer::write_text;
-use crate::handle::Handle;
+use call_handles::{Answer, Fault, Handle, write_text};
 use odata_queries::{FindFault, FoundFilter, find_filter};
 use std::alloc::Global;
 

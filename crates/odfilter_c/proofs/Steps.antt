@@ -41,7 +41,7 @@ pub use Rattle.odfilter_c.proofs.c_types.Bytes.TheLaws.{lowers as bytes_lowers, 
 pub use Rattle.odfilter_c.specs.declared.c_types.Buffer.{Buffer}
 pub use Rattle.odfilter_c.specs.contracts.c_types.Buffer.{the_row as BufferRow}
 pub use Rattle.odfilter_c.proofs.c_types.Buffer.TheLaws.{lowers as buffer_lowers, lowered as buffer_val, the_row_laws as buffer_laws}
-pub use Rattle.handle_calls.specs.declared.handle.Handle.{Handle}
-pub use Rattle.handle_calls.specs.declared.owned.Owned.{Owned}
-pub use Rattle.handle_calls.specs.declared.answer.Answer.{Answer}
+pub use Rattle.call_handles.specs.declared.handle.Handle.{Handle}
+pub use Rattle.call_handles.specs.declared.owned.Owned.{Owned}
+pub use Rattle.call_handles.specs.declared.answer.Answer.{Answer}
 pub use Rattle.odfilter_c.proofs.Walks.{HasNull, in_rest, trues, good, all_true, back, hold, unchanged, fpack2, fpack3, compares, stands, tested, closes, hands, inside, ends0, ends1, ends2, ends3}

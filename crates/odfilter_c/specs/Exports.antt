@@ -3,11 +3,11 @@ use Rattle.std.specs.Prelude.{◌≡◌, ℕ, List, [], ◌∷◌}
 use base.Fml.{Fml, fsep, feq, fex}
 use denote.RawPtr.{Ptr}
 use Rattle.odfilter_c.specs.Loans.{Loan, borrowed_fault, borrowed_handle, borrowed_judge, borrowed_bytes, borrowed_buffer, borrowed_made, borrowed_answer, left_judge, left_buffer, left_made, left_answer, unless_null, holds, of_optional, of_buffer, of_bytes}
-use Rattle.handle_calls.specs.declared.answer.Answer.{Answer}
+use Rattle.call_handles.specs.declared.answer.Answer.{Answer}
 use Rattle.odfilter_c.specs.declared.c_types.Bytes.{Bytes}
 use Rattle.odfilter_c.specs.declared.c_types.Buffer.{Buffer}
-use Rattle.handle_calls.specs.declared.handle.Handle.{Handle}
-use Rattle.handle_calls.specs.declared.owned.Owned.{Owned}
+use Rattle.call_handles.specs.declared.handle.Handle.{Handle}
+use Rattle.call_handles.specs.declared.owned.Owned.{Owned}
 use Rattle.handle_calls.specs.Reports.{ReadsSchema, FindsType, ChecksText, ChecksQuery, Frees}
 use Rattle.report_calls.specs.Reports.{ReportsVersion, ReportsStatus, ReportsFault}
 use Rattle.handle_calls.specs.RowReports.{ReportsNeed, MakesJudge, SetsBound, SetsMoment, JudgesOne, ReportsPath}

@@ -3,10 +3,10 @@ use Rattle.std.specs.Prelude.{◌≡◌, ℕ, List, [], ◌∷◌}
 use base.Fml.{Fml, fsep, feq, fex}
 use denote.RawPtr.{Ptr}
 use Rattle.odfilter_c.specs.Loans.{Loan, borrowed_handle, borrowed_judge, borrowed_bytes, borrowed_buffer, borrowed_answer, left_judge, left_buffer, left_answer, unless_null, holds, of_buffer, of_bytes}
-use Rattle.handle_calls.specs.declared.answer.Answer.{Answer}
+use Rattle.call_handles.specs.declared.answer.Answer.{Answer}
 use Rattle.odfilter_c.specs.declared.c_types.Bytes.{Bytes}
 use Rattle.odfilter_c.specs.declared.c_types.Buffer.{Buffer}
-use Rattle.handle_calls.specs.declared.handle.Handle.{Handle}
+use Rattle.call_handles.specs.declared.handle.Handle.{Handle}
 use Rattle.handle_calls.specs.RowReports.{FiltersLines}
 
 -- what `odfilter_filter_lines` borrows: a handle, a judge that may change, bytes, a buffer and the answer

@@ -11,14 +11,14 @@ use denote.Lend.{Held}
 use types.SemTy.{Body}
 use mir.Syntax.{static}
 use Rattle.std.specs.Ptr.{if_non_null}
-use Rattle.handle_calls.specs.declared.answer.Answer.{Answer}
+use Rattle.call_handles.specs.declared.answer.Answer.{Answer}
 use Rattle.odfilter_c.specs.declared.c_types.Bytes.{Bytes}
 use Rattle.odfilter_c.specs.declared.c_types.Buffer.{Buffer}
-use Rattle.handle_calls.specs.declared.handle.Handle.{Handle}
-use Rattle.handle_calls.specs.declared.owned.Owned.{Owned}
-use Rattle.handle_calls.specs.contracts.answer.Answer.{the_row as AnswerRow}
-use Rattle.handle_calls.specs.contracts.handle.Handle.{the_row as HandleRow}
-use Rattle.handle_calls.specs.contracts.owned.Owned.{the_row as OwnedRow}
+use Rattle.call_handles.specs.declared.handle.Handle.{Handle}
+use Rattle.call_handles.specs.declared.owned.Owned.{Owned}
+use Rattle.call_handles.specs.contracts.answer.Answer.{the_row as AnswerRow}
+use Rattle.call_handles.specs.contracts.handle.Handle.{the_row as HandleRow}
+use Rattle.call_handles.specs.contracts.owned.Owned.{the_row as OwnedRow}
 
 -- what stands in the memory that C passes by reference, with the names under which it may change, and for how long; it
 -- says nothing of a call that borrows none of these

@@ -3,10 +3,10 @@ use Rattle.std.specs.Prelude.{◌≡◌, ℕ, List, [], ◌∷◌}
 use base.Fml.{Fml, fsep, feq, fex}
 use denote.RawPtr.{Ptr}
 use Rattle.odfilter_c.specs.Loans.{Loan, borrowed_handle, borrowed_bytes, borrowed_buffer, borrowed_made, borrowed_answer, left_buffer, left_made, left_answer, unless_null, holds, of_buffer, of_bytes}
-use Rattle.handle_calls.specs.declared.answer.Answer.{Answer}
+use Rattle.call_handles.specs.declared.answer.Answer.{Answer}
 use Rattle.odfilter_c.specs.declared.c_types.Bytes.{Bytes}
 use Rattle.odfilter_c.specs.declared.c_types.Buffer.{Buffer}
-use Rattle.handle_calls.specs.declared.owned.Owned.{Owned}
+use Rattle.call_handles.specs.declared.owned.Owned.{Owned}
 use Rattle.report_calls.specs.SqlHandles.{MakesSql, ReportsStatement, ReportsValue}
 
 -- what `odfilter_new_sql` borrows: a handle, bytes, the new handle's variable and the answer

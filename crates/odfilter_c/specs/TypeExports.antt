@@ -3,7 +3,7 @@ use Rattle.std.specs.Prelude.{◌≡◌, ℕ, List, [], ◌∷◌}
 use base.Fml.{Fml, fsep, feq, fex}
 use denote.RawPtr.{Ptr}
 use Rattle.odfilter_c.specs.Loans.{Loan, borrowed_handle, borrowed_buffer, borrowed_answer, left_buffer, left_answer, unless_null, holds, of_buffer}
-use Rattle.handle_calls.specs.declared.answer.Answer.{Answer}
+use Rattle.call_handles.specs.declared.answer.Answer.{Answer}
 use Rattle.odfilter_c.specs.declared.c_types.Buffer.{Buffer}
 use Rattle.report_calls.specs.Reports.{ReportsTypes}
 

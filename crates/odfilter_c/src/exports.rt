@@ -20,7 +20,8 @@ ghost use Rattle.odfilter_c.specs.Exports.{borrowed_by_fault_name, left_by_fault
 
 use crate::c_types::{Buffer, Bytes};
 use crate::{length_calls, null_buffer_calls, null_calls};
-use handle_calls::{Answer, Handle, Owned, calls};
+use call_handles::{Answer, Handle, Owned};
+use handle_calls::calls;
 use report_calls::calls as reports;
 use std::alloc::Global;
 use std::slice::{from_raw_parts, from_raw_parts_mut};

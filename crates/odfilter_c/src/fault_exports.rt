@@ -7,7 +7,7 @@ ghost use Rattle.odfilter_c.specs.FaultExports.{borrowed_by_fault_json, left_by_
 
 use crate::c_types::{Buffer, Bytes};
 use crate::{length_calls, null_calls};
-use handle_calls::{Answer, Handle};
+use call_handles::{Answer, Handle};
 use report_calls::calls as reports;
 use std::alloc::Global;
 use std::slice::{from_raw_parts, from_raw_parts_mut};

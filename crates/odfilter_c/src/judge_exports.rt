@@ -9,7 +9,8 @@ ghost use Rattle.odfilter_c.specs.JudgeExports.{borrowed_by_share, left_by_share
 
 use crate::c_types::Bytes;
 use crate::null_calls;
-use handle_calls::{Answer, Handle, Owned, calls};
+use call_handles::{Answer, Handle, Owned};
+use handle_calls::calls;
 use std::alloc::Global;
 use std::slice::from_raw_parts;
 

@@ -10,7 +10,8 @@ ghost use Rattle.report_calls.specs.Sentences.{ReportsSentence, ReportsSentenceF
 ghost use Rattle.report_calls.specs.SqlHandles.{ReportsStatement, ReportsValue};
 
 use crate::null_calls;
-use handle_calls::{Answer, Handle, calls};
+use call_handles::{Answer, Handle};
+use handle_calls::calls;
 use report_calls::calls as reports;
 use std::alloc::Global;
 

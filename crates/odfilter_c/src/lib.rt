@@ -22,4 +22,4 @@ pub mod sql_exports;
 pub mod type_exports;
 
 pub use c_types::{Buffer, Bytes};
-pub use handle_calls::Answer;
+pub use call_handles::Answer;

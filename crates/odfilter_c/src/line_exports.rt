@@ -7,7 +7,8 @@ ghost use Rattle.odfilter_c.specs.LineExports.{borrowed_by_filter_lines, left_by
 
 use crate::c_types::{Buffer, Bytes};
 use crate::{null_buffer_calls, null_calls};
-use handle_calls::{Answer, Handle, calls};
+use call_handles::{Answer, Handle};
+use handle_calls::calls;
 use std::slice::{from_raw_parts, from_raw_parts_mut};
 
 /// Judges rows, a line each, and writes those that are kept.

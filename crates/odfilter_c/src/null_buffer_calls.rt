@@ -6,7 +6,8 @@ ghost use Rattle.handle_calls.specs.UrlCalls.{ChecksUrl};
 ghost use Rattle.handle_calls.specs.RowReports.{FiltersLines};
 
 use crate::null_calls;
-use handle_calls::{Answer, Handle, Owned, calls};
+use call_handles::{Answer, Handle, Owned};
+use handle_calls::calls;
 use std::alloc::Global;
 
 pub(crate) fn read_schema_to_null<'a>(

@@ -9,7 +9,8 @@ ghost use Rattle.handle_calls.specs.RowReports.{SetsMoment, JudgesOne, JudgesNex
 ghost use Rattle.report_calls.specs.Sentences.{ReportsSentence, ReportsSentenceFor};
 ghost use Rattle.report_calls.specs.SqlHandles.{MakesSql};
 
-use handle_calls::{Answer, Handle, Owned, calls, put_moment, report_next};
+use call_handles::{Answer, Handle, Owned};
+use handle_calls::{calls, put_moment, report_next};
 use report_calls::calls as reports;
 use std::alloc::Global;
 

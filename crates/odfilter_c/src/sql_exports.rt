@@ -9,7 +9,7 @@ ghost use Rattle.odfilter_c.specs.SqlExports.{borrowed_by_sql_value, left_by_sql
 
 use crate::c_types::{Buffer, Bytes};
 use crate::{length_calls, null_calls};
-use handle_calls::{Answer, Handle, Owned};
+use call_handles::{Answer, Handle, Owned};
 use report_calls::calls as reports;
 use std::alloc::Global;
 use std::slice::{from_raw_parts, from_raw_parts_mut};

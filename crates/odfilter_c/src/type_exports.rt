@@ -7,7 +7,7 @@ ghost use Rattle.odfilter_c.specs.TypeExports.{borrowed_by_types, left_by_types}
 
 use crate::c_types::Buffer;
 use crate::length_calls;
-use handle_calls::{Answer, Handle};
+use call_handles::{Answer, Handle};
 use report_calls::calls as reports;
 use std::alloc::Global;
 use std::slice::from_raw_parts_mut;

@@ -12,16 +12,16 @@ use Rattle.odata_sql.specs.Refusals.{ColumnsSuffice, HasColumns}
 use Rattle.odata_sql.specs.declared.translation.Conditions.{Conditions}
 use Rattle.sql_tree.specs.TableModel.{StorageModel, in_columns, in_document}
 use Rattle.sql_tree.specs.declared.dialect.Dialect.{Dialect}
-use Rattle.handle_calls.specs.RowCalls.{IsMomentFor}
+use Rattle.call_handles.specs.Moments.{IsMomentFor}
 use Rattle.report_calls.specs.SqlCalls.{HasConditions, HasSql, HasSqlBy, HasTableSql, IsNoConditions, IsNoNow, IsNoSql, IsNoSqlBy, IsNoTableSql, IsNowBy, IsSqlOf, IsStoredBy}
 use Rattle.report_calls.specs.SqlHandles.{HoldsConditions, IsSqlHandle, conditions_held}
 use Rattle.report_calls.specs.declared.sql_calls.Translated.{Translated}
 use Rattle.sql_tables.specs.Columns.{AreColumns, AreKnown}
 use Rattle.sql_tables.specs.Forms.{form_numbered}
 use Rattle.sql_tables.specs.Lines.{after_line, first_line, lines_of}
-use Rattle.handle_calls.specs.declared.call_fault.Fault.{Fault}
-use Rattle.handle_calls.specs.declared.handle.ConditionsHandle.{ConditionsHandle}
-use Rattle.handle_calls.specs.declared.handle.Handle.{Handle}
+use Rattle.call_handles.specs.declared.call_fault.Fault.{Fault}
+use Rattle.call_handles.specs.declared.handle.ConditionsHandle.{ConditionsHandle}
+use Rattle.call_handles.specs.declared.handle.Handle.{Handle}
 
 abbrev pub IsSqlOutcome : Handle → ℕ → List ℕ → Result Translated Fault → Type 0
 IsSqlOutcome given form how result =

@@ -1,10 +1,9 @@
+pub use Rattle.call_handles.specs.Answers
+pub use Rattle.call_handles.specs.Kinds
+pub use Rattle.call_handles.specs.Outcomes
+pub use Rattle.call_handles.specs.Texts
 pub use Rattle.fault_numbers.specs.FaultNumbers
 pub use Rattle.fault_sentences.specs.Numbers
-pub use Rattle.handle_calls.specs.Answers
-pub use Rattle.handle_calls.specs.Kinds
-pub use Rattle.handle_calls.specs.Outcomes
-pub use Rattle.handle_calls.specs.RowCalls
-pub use Rattle.handle_calls.specs.Texts
 pub use Rattle.odata_checked_filter.specs.Calls
 pub use Rattle.odata_checked_filter.specs.Filter
 pub use Rattle.odata_sql.specs.Conditions

@@ -2,7 +2,7 @@
 use Rattle.std.specs.Prelude.{ℕ, ◌&&◌, List, [], ◌∷◌, cond, eqb, codes, Option, None, Some, Result, Ok, Err}
 use Rattle.fault_numbers.specs.FaultNumbers.{name_at, names_of}
 use Rattle.fault_numbers.specs.declared.fault_number.FaultKind.{FaultKind}
-use Rattle.handle_calls.specs.declared.call_fault.Fault.{Fault}
+use Rattle.call_handles.specs.declared.call_fault.Fault.{Fault}
 
 -- what a list has for a number
 abbrev pub beside : {X : Type 0} → List (ℕ × X) → ℕ → Option X

@@ -1,8 +1,8 @@
 -- What each call reports of what it borrows.
 use Rattle.std.specs.Prelude.{ℕ, List, codes, Ok}
-use Rattle.handle_calls.specs.Texts.{Reports, Writes}
-use Rattle.handle_calls.specs.declared.answer.Answer.{Answer}
-use Rattle.handle_calls.specs.declared.handle.Handle.{Handle}
+use Rattle.call_handles.specs.Texts.{Reports, Writes}
+use Rattle.call_handles.specs.declared.answer.Answer.{Answer}
+use Rattle.call_handles.specs.declared.handle.Handle.{Handle}
 use Rattle.report_calls.specs.Names.{fault_named, status_named}
 use Rattle.report_calls.specs.SqlCalls.{IsNoSql, IsSqlOf}
 use Rattle.report_calls.specs.TypeLines.{IsListingOf, IsNoListing}

@@ -2,12 +2,12 @@
 use Rattle.std.specs.Prelude.{◌≡◌, ℕ, Bool, false, IsTrue, IsUtf8, List, [], ◌∷◌, Option, None, Some}
 use Rattle.fault_sentences.specs.Numbers.{is_known}
 use Rattle.fault_sentences.specs.declared.fault_class.FaultClass.{FaultClass}
-use Rattle.handle_calls.specs.Kinds.{IsType}
+use Rattle.call_handles.specs.Kinds.{IsType}
 use Rattle.report_calls.specs.Names.{beside}
-use Rattle.handle_calls.specs.Texts.{Reports}
-use Rattle.handle_calls.specs.declared.answer.Answer.{Answer}
-use Rattle.handle_calls.specs.declared.call_fault.Fault.{Fault}
-use Rattle.handle_calls.specs.declared.handle.Handle.{Handle}
+use Rattle.call_handles.specs.Texts.{Reports}
+use Rattle.call_handles.specs.declared.answer.Answer.{Answer}
+use Rattle.call_handles.specs.declared.call_fault.Fault.{Fault}
+use Rattle.call_handles.specs.declared.handle.Handle.{Handle}
 
 -- what is at fault under a status
 abbrev pub classes : List (ℕ × FaultClass)

@@ -17,9 +17,9 @@ use Rattle.sql_tables.specs.Forms.{form_numbered}
 use Rattle.sql_tables.specs.Lines.{after_line, first_line, lines_of}
 use Rattle.sql_tree.specs.TableModel.{StorageModel, in_columns, in_document}
 use Rattle.sql_tree.specs.declared.dialect.Dialect.{Dialect}
-use Rattle.handle_calls.specs.Kinds.{IsFilterKind}
-use Rattle.handle_calls.specs.declared.call_fault.Fault.{Fault}
-use Rattle.handle_calls.specs.declared.handle.Handle.{Handle}
+use Rattle.call_handles.specs.Kinds.{IsFilterKind}
+use Rattle.call_handles.specs.declared.call_fault.Fault.{Fault}
+use Rattle.call_handles.specs.declared.handle.Handle.{Handle}
 
 -- how a table stores entities, by what follows the first line: by the lines there, or in a column of that name, which
 -- is `doc` where none is given

@@ -6,16 +6,16 @@ use Rattle.odata_sql.specs.declared.translation.Statement.{Statement}
 use Rattle.sql_tree.specs.GivenText.{given_text}
 use Rattle.sql_tree.specs.declared.dialect.Dialect.{Dialect}
 use Rattle.sql_tree.specs.declared.parameter.Parameter.{Parameter}
-use Rattle.handle_calls.specs.Answers.{empty_answer}
-use Rattle.handle_calls.specs.Kinds.{IsConditionsKind}
-use Rattle.handle_calls.specs.Outcomes.{IsReported, Makes}
-use Rattle.handle_calls.specs.Texts.{IsTooSmall, IsWritten}
-use Rattle.handle_calls.specs.declared.answer.Answer.{Answer}
-use Rattle.handle_calls.specs.declared.call_fault.Fault.{Fault}
-use Rattle.handle_calls.specs.declared.handle.ConditionsHandle.{ConditionsHandle}
-use Rattle.handle_calls.specs.declared.handle.Handle.{Handle}
-use Rattle.handle_calls.specs.declared.handle.SqlStatement.{SqlStatement}
-use Rattle.handle_calls.specs.declared.owned.Owned.{Owned}
+use Rattle.call_handles.specs.Answers.{empty_answer}
+use Rattle.call_handles.specs.Kinds.{IsConditionsKind}
+use Rattle.call_handles.specs.Outcomes.{IsReported, Makes}
+use Rattle.call_handles.specs.Texts.{IsTooSmall, IsWritten}
+use Rattle.call_handles.specs.declared.answer.Answer.{Answer}
+use Rattle.call_handles.specs.declared.call_fault.Fault.{Fault}
+use Rattle.call_handles.specs.declared.handle.ConditionsHandle.{ConditionsHandle}
+use Rattle.call_handles.specs.declared.handle.Handle.{Handle}
+use Rattle.call_handles.specs.declared.handle.SqlStatement.{SqlStatement}
+use Rattle.call_handles.specs.declared.owned.Owned.{Owned}
 use Rattle.report_calls.specs.SqlCalls.{HasSql, IsNoSql}
 
 -- ---- the handle

@@ -4,9 +4,9 @@ use Rattle.std.specs.List.{flat_map}
 use Rattle.csdl_schema.specs.ExprType.{ExprType, SingleType, null_type, single, collection, primitive, enumeration, structured}
 use Rattle.csdl_schema.specs.SchemaModel.{PropertyModel, PropertyType, declared, opaque, navigation, ModelBody, structured_type, enumeration_type, type_definition, TypeModel, SchemaModel, properties_in}
 use Rattle.odata_checked_filter.specs.TypeText.{primitive_name}
-use Rattle.handle_calls.specs.Kinds.{IsSchema, IsType}
-use Rattle.handle_calls.specs.declared.call_fault.Fault.{Fault}
-use Rattle.handle_calls.specs.declared.handle.Handle.{Handle}
+use Rattle.call_handles.specs.Kinds.{IsSchema, IsType}
+use Rattle.call_handles.specs.declared.call_fault.Fault.{Fault}
+use Rattle.call_handles.specs.declared.handle.Handle.{Handle}
 
 -- the qualified name of the type of one value
 abbrev pub single_text : SingleType → List ℕ

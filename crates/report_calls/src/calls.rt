@@ -10,7 +10,7 @@ use crate::sql_calls::sql_of;
 use crate::sql_handles::sql_handle;
 use crate::statement_calls::{report_shown, report_statement, statement_of, value_of};
 use crate::type_lines::types_of;
-use handle_calls::{Answer, Handle, Owned, give, report_bytes, report_fault};
+use call_handles::{Answer, Handle, Owned, give, report_bytes, report_fault};
 use std::alloc::Global;
 
 /// Writes a sentence about a fault of a filter, query or row of a type.

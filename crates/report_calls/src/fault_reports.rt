@@ -2,8 +2,8 @@
 ghost use Rattle.std.specs.Prelude.{◌≡◌, IfErr, IsUtf8, MatchResult, Some};
 ghost use Rattle.report_calls.specs.Sentences.{IsNoSentence, class_under};
 
+use call_handles::{Answer, Fault, TypeHandle};
 use fault_sentences::{FaultClass, Report};
-use handle_calls::{Answer, Fault, TypeHandle};
 use odata_text::Span;
 
 /// What is at fault under a status.

@@ -4,9 +4,9 @@ ghost use Rattle.fault_sentences.specs.Numbers.{is_known};
 ghost use Rattle.report_calls.specs.Sentences.{IsNoSentence, IsNoSentenceFor, IsSentenceFor, has_fault};
 
 use crate::fault_reports::report_of;
+use call_handles::{Answer, Fault, Handle, TypeHandle};
 use fault_json::{LocatedFault, fault_json};
 use fault_sentences::{FaultClass, Report};
-use handle_calls::{Answer, Fault, Handle, TypeHandle};
 use std::alloc::{AllocError, Global};
 
 /// The line of a row's fault in a run; a row by itself has none.

@@ -2,8 +2,8 @@
 ghost use Rattle.std.specs.Prelude.{◌≡◌, Ok, Err, MatchResult};
 ghost use Rattle.report_calls.specs.Names.{fault_named, kind_under, lone_named, status_named};
 
+use call_handles::Fault;
 use fault_numbers::{FaultKind, fault_name};
-use handle_calls::Fault;
 
 pub(crate) const VERSION: &str = "0.1.0";
 

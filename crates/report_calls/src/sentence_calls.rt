@@ -4,9 +4,9 @@ ghost use Rattle.fault_sentences.specs.Numbers.{is_known};
 ghost use Rattle.report_calls.specs.Sentences.{IsNoSentence, IsNoSentenceFor, IsSentenceFor, has_fault};
 
 use crate::fault_reports::report_of;
+use call_handles::{Answer, Fault, Handle, TypeHandle};
 use fault_sentences::{Report, fault_sentence};
 use filter_hints::{FilterOf, advise};
-use handle_calls::{Answer, Fault, Handle, TypeHandle};
 use std::alloc::{AllocError, Global};
 
 /// The sentence about a fault, with what the type shows of what was meant.

@@ -1,6 +1,6 @@
 //! A filter as conditions of SQL.
-ghost use Rattle.handle_calls.specs.declared.call_fault.Fault.{Fault};
-ghost use Rattle.handle_calls.specs.declared.handle.Handle.{Handle};
+ghost use Rattle.call_handles.specs.declared.call_fault.Fault.{Fault};
+ghost use Rattle.call_handles.specs.declared.handle.Handle.{Handle};
 ghost use Rattle.std.specs.Prelude.{◌≡◌, Ok, Err, MatchResult, string_bytes, true, false};
 ghost use Rattle.odata_sql.specs.JsonText.{IsTextOf};
 ghost use Rattle.odata_sql.specs.Refusals.{HasColumns};
@@ -8,8 +8,8 @@ ghost use Rattle.sql_tree.specs.TableModel.{storage_in};
 ghost use Rattle.report_calls.specs.SqlCalls.{HasConditions, HasSql, HasTableSql};
 ghost use Rattle.report_calls.specs.SqlCalls.{IsNoConditions, IsNoNow, IsNoSql, IsNoTableSql, IsNowBy, IsSqlOf};
 
+use call_handles::{Fault, Handle, moment_for};
 use edm_values::{Moment, read_moment};
-use handle_calls::{Fault, Handle, moment_for};
 use odata_sql::{Conditions, SqlFault, columns_suffice, conditions_json, translate};
 use odata_typing::Checked;
 use sql_tables::{are_known, columns_of, form_of, split_first_line};

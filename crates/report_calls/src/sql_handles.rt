@@ -1,11 +1,11 @@
 //! Conditions of SQL as a handle.
-ghost use Rattle.handle_calls.specs.declared.call_fault.Fault.{Fault};
+ghost use Rattle.call_handles.specs.declared.call_fault.Fault.{Fault};
 ghost use Rattle.std.specs.Prelude.{◌≡◌, MatchResult, option_map};
 ghost use Rattle.report_calls.specs.SqlCalls.{IsNoSql};
 ghost use Rattle.report_calls.specs.SqlHandles.{HoldsConditions, IsSqlHandle, conditions_held, statement_held};
 
 use crate::sql_calls::{Translated, conditions_of};
-use handle_calls::{ConditionsHandle, Fault, Handle, SqlStatement};
+use call_handles::{ConditionsHandle, Fault, Handle, SqlStatement};
 use odata_sql::{Conditions, Statement};
 use std::alloc::Global;
 

@@ -4,7 +4,7 @@ ghost use Rattle.report_calls.specs.SqlHandles.{IsNoValue, IsValueIn, WritesShow
 ghost use Rattle.report_calls.specs.SqlHandles.{statement_in, statement_numbered, statement_shown, value_shown};
 ghost use Rattle.report_calls.specs.SqlHandles.{whole_bits};
 
-use handle_calls::{Answer, ConditionsHandle, Fault, Handle, SqlStatement, report_bytes};
+use call_handles::{Answer, ConditionsHandle, Fault, Handle, SqlStatement, report_bytes};
 use sql_tree::{Dialect, Parameter};
 use std::alloc::{AllocError, Global};
 

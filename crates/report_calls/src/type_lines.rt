@@ -8,9 +8,9 @@ ghost use Rattle.report_calls.specs.TypeLines.{IsListingOf, IsNoListing, kind_wo
 ghost use Rattle.report_calls.specs.TypeLines.{nullable_word, of_items, property_line, schema_lines};
 ghost use Rattle.report_calls.specs.private.TypeLines.{kind_item, kind_line, kind_words};
 
+use call_handles::{Fault, Handle};
 use csdl_schema::{Property, PropertyKind, Schema, TypeId};
 use edm_values::Prim;
-use handle_calls::{Fault, Handle};
 use std::alloc::{AllocError, Global};
 
 /// What stands for the name of a type that is not read.

@@ -2,7 +2,7 @@
 use Rattle.std.specs.Prelude.{if◌then◌else◌}
 use Rattle.row_judges.specs.RowAnswer.{is_memory}
 use Rattle.row_judges.specs.declared.bad_row.BadRow.{BadRow}
-use Rattle.handle_calls.specs.declared.call_fault.Fault.{Fault}
+use Rattle.call_handles.specs.declared.call_fault.Fault.{Fault}
 
 -- a row by itself has no line, which is reported as 0
 abbrev pub fault_at_no_line : BadRow → Fault

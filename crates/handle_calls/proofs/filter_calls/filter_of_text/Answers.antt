@@ -1,7 +1,7 @@
 use Rattle.std.proofs.Common.{◌≡◌, ◌∙◌, ap, subst}
 use Rattle.csdl_schema.specs.SchemaModel.{SchemaModel}
 use Rattle.handle_calls.specs.FilterCalls.{IsRefused}
-use Rattle.handle_calls.specs.HeldType.{EntityType}
+use Rattle.call_handles.specs.HeldType.{EntityType}
 use Rattle.handle_calls.proofs.filter_calls.filter_of_text.Goals as goal
 
 pub returns-in-Err : goal.returns-in-Err

@@ -4,9 +4,9 @@ use Rattle.csdl_schema.specs.ExpansionView.{StepModel}
 use Rattle.edm_rows.specs.RowLayout.{LayoutOfRows}
 use Rattle.odata_checked_filter.specs.Filter.{Filter}
 use Rattle.row_judges.specs.RowAnswer.{IsLayoutOfFilter}
-use Rattle.handle_calls.specs.HeldType.{EntityType}
-use Rattle.handle_calls.specs.private.HeldType.{IsHeldType}
-use Rattle.handle_calls.specs.declared.call_fault.Fault.TheVariants.{Memory}
+use Rattle.call_handles.specs.HeldType.{EntityType}
+use Rattle.call_handles.specs.private.HeldType.{IsHeldType}
+use Rattle.call_handles.specs.declared.call_fault.Fault.TheVariants.{Memory}
 use Rattle.handle_calls.proofs.filter_calls.layout_for.Goals.{in-Ok, in-Err}
 use Rattle.handle_calls.proofs.filter_calls.layout_for.Goals as goal
 

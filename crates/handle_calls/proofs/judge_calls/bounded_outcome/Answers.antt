@@ -2,7 +2,7 @@ use Rattle.std.proofs.Common.{Option, Ok, Err, Some, refl, sym, subst}
 use Rattle.odata_eval.specs.declared.verdict.Verdict.{Verdict}
 use Rattle.row_judges.specs.RowCosts.{ReportsRowWithin}
 use Rattle.handle_calls.specs.RowCalls.{IsOutcomeAt}
-use Rattle.handle_calls.specs.declared.call_fault.Fault.{Fault}
+use Rattle.call_handles.specs.declared.call_fault.Fault.{Fault}
 use Rattle.handle_calls.proofs.RowSteps.{bounded_row}
 use Rattle.handle_calls.proofs.judge_calls.bounded_outcome.Goals as goal
 

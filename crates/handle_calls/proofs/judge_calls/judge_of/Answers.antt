@@ -3,8 +3,8 @@ use Rattle.std.specs.Prelude.{Box}
 use Rattle.std.specs.declared.alloc.Global.{Global}
 use Rattle.odata_checked_filter.specs.Filter.{Filter}
 use Rattle.handle_calls.specs.RowCalls.{IsJudgeOf, IsNewJudge, IsNoJudgeOf, IsNoMemory}
-use Rattle.handle_calls.specs.declared.call_fault.Fault.{Fault}
-use Rattle.handle_calls.specs.declared.handle.Handle.{Handle}
+use Rattle.call_handles.specs.declared.call_fault.Fault.{Fault}
+use Rattle.call_handles.specs.declared.handle.Handle.{Handle}
 use Rattle.handle_calls.proofs.judge_calls.judge_of.Goals as goal
 
 no_judge : (filter : Filter) (fault : Fault) → IsNoMemory fault → IsNoJudgeOf (Handle.Filter filter) fault

@@ -2,7 +2,7 @@ use Rattle.std.proofs.Common.{◌∙◌, sym, subst}
 use Rattle.odata_checked_filter.specs.Filter.{Filter}
 use Rattle.row_judges.specs.FilterRows.{AreRowsOfFilter}
 use Rattle.handle_calls.specs.RowCalls.{IsOutcomeAt}
-use Rattle.handle_calls.specs.declared.handle.OwnFilter.TheInside.{Inside}
+use Rattle.call_handles.specs.declared.handle.OwnFilter.TheInside.{Inside}
 use Rattle.handle_calls.proofs.RowSteps.{at_moment, outcome_there}
 use Rattle.handle_calls.proofs.judge_calls.own_verdict.Goals.{in-Own-2, in-Borrowed-2}
 use Rattle.handle_calls.proofs.judge_calls.own_verdict.Goals as goal

@@ -1,7 +1,7 @@
 use Rattle.std.proofs.Common.{Err, None, sym, subst}
 use Rattle.row_judges.specs.RowAnswer.{ReportsRow}
 use Rattle.handle_calls.specs.RowCalls.{IsOutcomeAt}
-use Rattle.handle_calls.specs.declared.call_fault.Fault.{Fault}
+use Rattle.call_handles.specs.declared.call_fault.Fault.{Fault}
 use Rattle.handle_calls.proofs.RowSteps.{plain_row}
 use Rattle.handle_calls.proofs.judge_calls.plain_outcome.Goals as goal
 

@@ -4,7 +4,7 @@ use Rattle.std.specs.declared.alloc.Global.{Global}
 use Rattle.odata_checked_filter.specs.Filter.{Filter}
 use Rattle.handle_calls.specs.RowCalls.{IsOutcomeOn}
 use Rattle.handle_calls.specs.RowReports.{JudgesOneBy, JudgesOwn, ReportsVerdict}
-use Rattle.handle_calls.specs.declared.handle.JudgeHandle.{JudgeHandle}
+use Rattle.call_handles.specs.declared.handle.JudgeHandle.{JudgeHandle}
 use Rattle.handle_calls.proofs.judge_calls.report_own_verdict.Goals as goal
 
 pub returns-in-Some : goal.returns-in-Some

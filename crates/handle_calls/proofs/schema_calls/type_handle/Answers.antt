@@ -2,7 +2,7 @@ use Rattle.std.proofs.Common.{sym, ◌∙◌, subst}
 use Rattle.csdl_schema.specs.SchemaModel.{SchemaModel}
 use Rattle.edm_row_plans.specs.Plans.{IsPlanOf}
 use Rattle.edm_rows.specs.RowLayout.{LayoutOfRows}
-use Rattle.handle_calls.specs.private.HeldType.{IsHeldType}
+use Rattle.call_handles.specs.private.HeldType.{IsHeldType}
 use Rattle.handle_calls.proofs.schema_calls.type_handle.Goals as goal
 
 pub new-layout-requires : goal.new-layout-requires

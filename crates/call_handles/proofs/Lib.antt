@@ -1,0 +1,3 @@
+mod Steps
+mod Types
+mod OwnedSteps

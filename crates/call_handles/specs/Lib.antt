@@ -1,0 +1,16 @@
+pub use Rattle.csdl_schema.specs.SchemaModel
+pub use Rattle.edm_values.specs.MomentParts
+pub use Rattle.fault_numbers.specs.FaultNumbers
+pub use Rattle.odata_checked_filter.specs.Calls
+pub use Rattle.odata_checked_filter.specs.Filter
+pub use Rattle.row_judges.specs.FilterRows
+pub use Rattle.row_judges.specs.RowAnswer
+pub mod Answers
+pub mod Block
+pub mod HeldType
+pub mod Kinds
+pub mod Moments
+pub mod Outcomes
+pub mod Owned
+pub mod Texts
+pub mod private

@@ -1,0 +1,3 @@
+-- Definitions that private clauses alone cite.
+pub mod Handle
+pub mod HeldType
