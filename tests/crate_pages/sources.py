@@ -2,6 +2,7 @@
 
 Sources are read line by line, as `rt fmt` lays them out: an item of a file or of an `impl` starts at column 0 or 4.
 """
+import collections
 import os
 import re
 import subprocess
@@ -10,6 +11,8 @@ TOP = os.path.dirname(os.path.dirname(os.path.dirname(os.path.realpath(__file__)
 FUNCTION = re.compile(r'( *)(pub )?(?:const )?(?:(?:unsafe )?extern "C" )?fn (\w+)')
 CLAUSE = re.compile(r"\s+(requires|ensures|ghost)\*?\s+(?:(\w+):?\s+)?\{")
 TYPE = re.compile(r"pub (struct|enum|trait|const|type) (\w+)")
+# the `impl` or `trait` around a line: its type and trait, if it has them, and its first line
+Block = collections.namedtuple("Block", "owner trait header", defaults=[None] * 3)
 
 
 def files_below(*folders):
@@ -124,38 +127,39 @@ def above(lines, at):
     return [re.sub(r"^ */// ?", "", line) for line in lines[start:stop]], lines[stop:at]
 
 
-def function_at(path, lines, at, owner, trait):
+def function_at(path, lines, at, block):
     start = FUNCTION.match(lines[at])
     if not start or len(start[1]) not in (0, 4):
         return None
-    made = Function(f"{path}:{at + 1}", owner if start[1] else None, trait, start[3], bool(start[2]))
+    owner = block.owner if start[1] else None
+    made = Function(f"{path}:{at + 1}", owner, block.trait, start[3], bool(start[2]))
     made.signature, after = signature_at(lines, at)
     made.clauses = list(clauses_at(lines, after))
     made.doc, _ = above(lines, at)
     return made
 
 
-def given_at(path, lines, at, owner, trait, header):
+def given_at(path, lines, at, block):
     """The `ghost` of an `impl` of a trait that stands on a line."""
     given = re.match(r"    ghost (\w+) = ", lines[at])
-    if not (given and trait and owner):
+    if not (given and block.trait and block.owner):
         return None
     clause = Clause("ghost", given[1], lines[at : end_of_braces(lines, at) + 1])
-    return Given(f"{path}:{at + 1}", owner, trait, header, clause)
+    return Given(f"{path}:{at + 1}", *block, clause)
 
 
 def functions_of(path):
     """The functions of a source file with their contracts, and what its `impl` blocks give, as if of functions."""
-    owner = trait = header = None
+    block = Block()
     lines = text_of(path).split("\n")
     for at, line in enumerate(lines):
-        block = re.match(r"(?:pub )?(impl|trait)\b(.*)", line)
-        if block:
-            trait, owner = names_of_block(*block.groups())
-            header = line.removesuffix(" {")
+        start = re.match(r"(?:pub )?(impl|trait)\b(.*)", line)
+        if start:
+            trait, owner = names_of_block(*start.groups())
+            block = Block(owner, trait, line.removesuffix(" {"))
         elif line == "}":
-            owner = trait = None
-        found = function_at(path, lines, at, owner, trait) or given_at(path, lines, at, owner, trait, header)
+            block = Block()
+        found = function_at(path, lines, at, block) or given_at(path, lines, at, block)
         if found:
             yield found
 

@@ -100,8 +100,8 @@ fn object_text(
     written(alloc, checked, &canonical, paths.as_slice(), &explanation)
 }
 
-/// Returns the JSON object of a plan's filter, without a line feed; `None` if it is not accepted. Under `explain` it has
-/// the lines of `given`, or those of the filter's explanation. It has no clause: what the object says is tested.
+/// Returns the JSON object of a plan's filter, without a line feed; `None` if it is not accepted. Under `explain` it
+/// has the lines of `given`, or those of the filter's explanation. It has no clause: what the object says is tested.
 pub fn accepted_json(
     alloc: Global,
     plan: &Plan<'_>,

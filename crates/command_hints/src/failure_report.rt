@@ -199,8 +199,8 @@ fn plain_json(
     fault_json(alloc, &located)
 }
 
-/// Returns the JSON object of a run's failure, as [`fault_json`] makes it, without a line feed. `None` of a failure of a
-/// device or of memory. It has no clause: what the object says is tested.
+/// Returns the JSON object of a run's failure, as [`fault_json`] makes it, without a line feed. `None` of a failure of
+/// a device or of memory. It has no clause: what the object says is tested.
 pub fn failure_json(
     alloc: Global,
     run: &FailedRun<'_, '_, '_>,

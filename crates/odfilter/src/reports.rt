@@ -76,7 +76,8 @@ pub fn report_hints(rt: &HostRuntime, hints: Hints, run: &PlanRun<'_, '_>) {
     }
 }
 
-/// Says to a person which properties have a type that is none, after a run whose filter was accepted. Returns its status.
+/// Says to a person which properties have a type that is none, after a run whose filter was accepted. Returns its
+/// status.
 #[inline(never)]
 pub fn report_warnings(
     rt: &HostRuntime,

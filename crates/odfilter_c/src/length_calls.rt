@@ -1,5 +1,5 @@
-//! The calls where the buffer stands at a null address: with the length 0 they report how long the text is, with another
-//! length the status is that of a null address, and nothing is written.
+//! The calls where the buffer stands at a null address: with the length 0 they report how long the text is, with
+//! another length the status is that of a null address, and nothing is written.
 ghost use Rattle.std.specs.Prelude.{◌≡◌, ℕ, List, []};
 ghost use Rattle.odfilter_c.specs.Loans.{UnlessLong};
 ghost use Rattle.handle_calls.specs.Reports.{ReportsCanonical, ReportsNodes};

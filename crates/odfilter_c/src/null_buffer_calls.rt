@@ -1,4 +1,4 @@
-//! The calls of which a text is not all that they report, where its buffer stands at a null address: as in `length_calls`.
+//! The calls that report more than a text, where its buffer stands at a null address: as in `length_calls`.
 ghost use Rattle.std.specs.Prelude.{◌≡◌, ℕ, List, []};
 ghost use Rattle.odfilter_c.specs.Loans.{UnlessLong};
 ghost use Rattle.handle_calls.specs.Reports.{ReadsSchema};
