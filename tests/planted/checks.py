@@ -80,17 +80,16 @@ class Said:
         self.status, self.lines, self.seconds = status, lines, seconds
 
 
-def check(repository, name, texts, functions, kept, more=()):
+def check(repository, name, texts, kept, flags):
     """Checks a copy of a crate with other texts, none for a file that goes, over what earlier checks of it have kept in
-    a folder. Only the functions that are named and those that they call are checked."""
+    a folder."""
     with tempfile.TemporaryDirectory(prefix="planted-") as room:
         for part in ("src", "specs", "proofs"):
             if os.path.isdir(f"{repository.folder(name)}/{part}"):
                 shutil.copytree(f"{repository.folder(name)}/{part}", f"{room}/{part}")
         for path, text in texts.items():
             put(f"{room}/{path}", text)
-        only = [word for it in functions for word in ("--only", it)]
-        return run([*repository.words(name), "--incremental", kept, *more, *only], room)
+        return run([*repository.words(name), "--incremental", kept, *flags], room)
 
 
 def put(path, text):

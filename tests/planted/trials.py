@@ -94,11 +94,13 @@ class Trial:
             self.judge(batch, f"{room}/kept")
 
     def check(self, batch, kept, stand_ins=None, texts=None):
+        """Checks the functions of a batch alone, with those that they call."""
         functions = dict.fromkeys(it.name for it in batch.functions())
-        texts, more = texts or batch.texts, ["--allow-holes"] if stand_ins else []
+        texts, flags = texts or batch.texts, ["--allow-holes"] if stand_ins else []
         texts = stand_ins.texts(texts) if stand_ins else texts
+        flags += [word for it in functions for word in ("--only", it)]
         with self.place():
-            said = check(self.repository, self.name, texts, functions, kept, more)
+            said = check(self.repository, self.name, texts, kept, flags)
         with self.counting:
             self.checks, self.seconds = self.checks + 1, self.seconds + said.seconds
         return said

@@ -28,7 +28,7 @@ pub fn explains_rows(alloc: Global, plan: &Plan<'_>, document: &[u8]) -> Result<
 }
 
 /// The moment of a plan for its filter.
-fn moment_of<'p>(plan: &Plan<'p>, filter: &Checked<'_>) -> Result<Moment, Failure<'p>> {
+pub(crate) fn moment_of<'p>(plan: &Plan<'p>, filter: &Checked<'_>) -> Result<Moment, Failure<'p>> {
     match plan.now {
         Some(text) => read_moment(text).ok_or(Failure::NotAMoment),
         None => if filter.uses_now() {

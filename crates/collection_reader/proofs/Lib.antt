@@ -1,0 +1,14 @@
+mod BlockLemmas
+mod Claims
+mod EndLemmas
+mod EnvelopeLemmas
+mod FeedLemmas
+mod ItemClaims
+mod ItemRunLemmas
+mod KindFacts
+mod PageLaws
+mod ReaderLemmas
+mod StepLemmas
+mod StopLemmas
+mod TakeLemmas
+mod WrittenLemmas

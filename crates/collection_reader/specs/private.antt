@@ -1,0 +1,9 @@
+pub mod EnvelopeTest
+pub mod ItemRuns
+pub mod ItemScan
+pub mod ItemText
+pub mod Kinds
+pub mod Nesting
+pub mod PlainBytes
+pub mod ValueName
+pub mod Written
