@@ -180,8 +180,8 @@ fn other_member(
     )
 }
 
-/// The name that stands there and its colon, which white space may come before. The cache reports its slot: mostly none,
-/// or that of the member that came next the last time.
+/// The name that stands there and its colon, which white space may come before. The cache reports its slot: mostly
+/// none, or that of the member that came next the last time.
 #[inline(always)]
 fn next_name(
     cache: &mut Cache,

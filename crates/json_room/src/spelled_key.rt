@@ -129,8 +129,8 @@ impl SpelledKey {
         Some(end + 1)
     }
 
-    /// The offset after the name, its quotes and its colon, where white space may come before the colon. Its clauses say
-    /// nothing of `None`.
+    /// The offset after the name, its quotes and its colon, where white space may come before the colon. Its clauses
+    /// say nothing of `None`.
     #[inline(never)]
     pub fn end_before_blanks(&self, line: &RoomyLine<'_>, place: usize) -> Option<usize>
         requires { place ≤ length line.now }
