@@ -65,7 +65,7 @@ class Function:
 
     def has_part(self, name):
         """Whether what a file of proofs has under a name is its own, in a cycle of several functions."""
-        return self.has_goal(name.removeprefix("decreases-"))
+        return self.has_goal(re.sub(r"^(decreases|invariant)-", "", name))
 
 
 def home_of(functions):
